@@ -1,0 +1,24 @@
+-- Laws of the formats, by subject.
+pub mod Low
+pub mod Bits
+pub mod Writers
+pub mod Codes
+pub mod Windows
+pub mod Places
+pub mod Prefix
+pub mod Varints
+pub mod Ascending
+pub mod Sets
+pub mod Gaps
+pub mod Coded
+pub mod Bitmaps
+pub mod Chunks
+pub mod Filled
+pub mod Sizes
+pub mod Encoded
+pub mod Decoding
+pub mod Records
+pub mod Reading
+pub mod Compared
+pub mod Indexing
+pub mod Cases

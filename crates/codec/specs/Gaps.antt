@@ -1,0 +1,80 @@
+-- Ids coded as distances, one at a time: what a cursor has yet to give, and what a reader finds.
+use Prim.Native.Nat.{ℕ, zero, suc, _+_, _-_, _*_, _≤_, _<_}
+use mathlib.Core.Path.{_≡_}
+use mathlib.Core.Bool.{Bool, true, false, not, _&&_}
+use mathlib.Core.List.{List, [], _∷_, _++_, map}
+use lib.ListN.{length, drop, getD}
+use lib.Dec.{leb, eqb}
+use Rattle.codec.specs.Bits.{bitsOf}
+use Rattle.codec.specs.Sets.{Within, mapBits, idsOf, absent, gapBits, ReadIds, given, none}
+use Rattle.codec.specs.declared.gaps.Cursor.{Cursor}
+use Rattle.codec.specs.declared.gaps.Next.{Next}
+use Rattle.codec.specs.declared.gaps.Next.the-variants.{Id, End}
+use Rattle.codec.specs.declared.gaps.Checked.{Checked}
+use Rattle.codec.specs.declared.gaps.Checked.the-variants.{Good, Bad}
+
+-- the ids that a set codes as distances: its own, or, of a dense set, those absent
+unfoldable pub codedIds : Bool → ℕ → List ℕ → List ℕ
+codedIds false N ids = ids
+codedIds true N ids = absent N ids
+
+-- the ids from `from` on, `count` candidates, that are not among these
+unfoldable pub absentFrom : ℕ → ℕ → List ℕ → List ℕ
+absentFrom from count ids = idsOf from (map not (mapBits from count ids))
+
+-- those that a cursor has yet to give
+unfoldable pub codedFrom : Bool → ℕ → List ℕ → Cursor → List ℕ
+codedFrom false N ids c = drop (c .i) ids
+codedFrom true N ids c = absentFrom (c .from) (N - c .from) (drop (c .i) ids)
+
+-- a cursor whose ids ahead lie from its place on
+pub record Ahead (N : ℕ) (ids : List ℕ) (c : Cursor) : Type 0 where
+  pub inside : c .i ≤ length ids
+  pub below : c .from ≤ N
+  pub left : Within (c .from) N (drop (c .i) ids)
+
+-- whether k ids stand from place i on, the last of them k - 1 above `from`
+unfoldable pub goesUp : List ℕ → ℕ → ℕ → ℕ → Bool
+goesUp ids i from k = leb (i + k) (length ids) && eqb (getD ids (i + k - 1) 0) (from + k - 1)
+
+-- the k ids from place i on go up by one from `from`
+pub record Skipped (N : ℕ) (ids : List ℕ) (i from k : ℕ) : Type 0 where
+  pub inside : i + k ≤ length ids
+  pub below : from + k ≤ N
+  pub left : Within (from + k) N (drop (i + k) ids)
+  pub same : absentFrom from (N - from) (drop i ids) ≡ absentFrom (from + k) (N - (from + k)) (drop (i + k) ids)
+
+-- the next id and the cursor behind it, or the end
+abbrev pub Gave : Bool → ℕ → List ℕ → Cursor → Next → Type 0
+Gave dense N ids c (Id id next) =
+    (codedFrom dense N ids c ≡ id ∷ codedFrom dense N ids next) × (c .from ≤ id) × (id < N) × (next .from ≡ id + 1) × Ahead N ids next
+Gave dense N ids c End = codedFrom dense N ids c ≡ []
+
+-- ---- readers
+
+-- k numbers from `from` on
+unfoldable pub numbers : ℕ → ℕ → List ℕ
+numbers from zero = []
+numbers from (suc k) = from ∷ numbers (from + 1) k
+
+-- the ids of an answer
+abbrev pub idsIn : ReadIds → List ℕ
+idsIn (given xs rest) = xs
+idsIn none = []
+
+abbrev pub after : List ℕ → ReadIds → ReadIds
+after xs (given ys rest) = given (xs ++ ys) rest
+after xs none = none
+
+abbrev pub Accepted : ReadIds → Type 0
+Accepted r = (xs : List ℕ) × (rest : List Bool) × (r ≡ given xs rest)
+
+-- ids are read from a place on, and the place behind them; or none are
+abbrev pub IdsAt : (List Bool → ReadIds) → List ℕ → ℕ → Checked → Type 0
+IdsAt read bytes at (Good next) = ((xs : List ℕ) × (read (drop at (bitsOf bytes)) ≡ given xs (drop next (bitsOf bytes)))) × (next ≤ 8 * length bytes)
+IdsAt read bytes at Bad = read (drop at (bitsOf bytes)) ≡ none
+
+-- these bits stand at a place, and the place behind them; or they do not
+abbrev pub BitsAt : List Bool → List ℕ → ℕ → Checked → Type 0
+BitsAt bits bytes at (Good next) = (drop at (bitsOf bytes) ≡ bits ++ drop next (bitsOf bytes)) × (next ≤ 8 * length bytes)
+BitsAt bits bytes at Bad = ((rest : List Bool) → drop at (bitsOf bytes) ≡ bits ++ rest → ⊥)

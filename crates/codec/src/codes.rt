@@ -1,0 +1,195 @@
+// Elias gamma and delta codes.
+use crate::bits::BitWriter;
+ghost use mathlib.Core.Path.{_≡_};
+ghost use Prim.Native.Nat.{_+_, _-_, _*_, _%_, _<_, _≤_, _^_};
+ghost use lib.ListN.{length};
+ghost use Rattle.codec.specs.Codes.{gamma, delta, readLow, readGamma, readDelta};
+ghost use Rattle.codec.specs.Places.{FoundAt};
+ghost use Rattle.codec.specs.Windows.{CodedIn};
+ghost use Rattle.codec.specs.Writers.{Ready, Wrote, WordOf, SplitOf};
+
+// A value and the bit place behind its code, or that none is there that a set needs.
+pub(crate) enum Found {
+    Value { value: u32, next: usize },
+    Missing,
+}
+
+// The number whose highest set bit is bit `b` and whose lower bits are those from `at`, less 1.
+pub(crate) fn low_at(bytes: &[u8], at: usize, b: usize) -> Found
+    requires { ⌜ (length (now bytes) < 2 ^ 60) × (at ≤ 8 * length (now bytes)) ⌝ }
+    ensures { λ r. ⌜ FoundAt (readLow b) (now (bytes .entry)) at r ⌝ }
+{
+    if 20 < b {
+        return Found::Missing;
+    }
+    if bytes.len() * 8 - at < b {
+        return Found::Missing;
+    }
+    let low = crate::bits::low_value(bytes, at, b);
+    Found::Value {
+        value: (low + (1u64 << b) - 1) as u32,
+        next: at + b,
+    }
+}
+
+// How many zeros stand before a one, or that the bits end first.
+pub(crate) enum Zeros {
+    Count(usize),
+    End,
+}
+
+// The value of the gamma code at bit place `at`.
+pub(crate) fn read_gamma(bytes: &[u8], at: usize) -> Found
+    requires { ⌜ length (now bytes) < 2 ^ 60 ⌝ }
+    ensures { λ r. ⌜ FoundAt readGamma (now (bytes .entry)) at r ⌝ }
+{
+    let mut place = at;
+    let zeros = loop {
+        if bytes.len() <= place / 8 {
+            break Zeros::End;
+        }
+        if crate::bits::bit_at(bytes, place) != 0 {
+            break Zeros::Count(place - at);
+        }
+        place += 1;
+    };
+    let Zeros::Count(n) = zeros else {
+        return Found::Missing;
+    };
+    low_at(bytes, at + n + 1, n)
+}
+
+// The value of the delta code at bit place `at`, bit by bit.
+pub(crate) fn delta_at(bytes: &[u8], at: usize) -> Found
+    requires { ⌜ length (now bytes) < 2 ^ 60 ⌝ }
+    ensures { λ r. ⌜ FoundAt readDelta (now (bytes .entry)) at r ⌝ }
+{
+    let Found::Value { value, next } = read_gamma(bytes, at) else {
+        return Found::Missing;
+    };
+    low_at(bytes, next, value as usize)
+}
+
+// A code at the low end of a number: its value and its count of bits, or that none is seen.
+pub(crate) enum Coded {
+    Code { value: u32, count: usize },
+    Unseen,
+}
+
+// The number whose highest set bit is bit `b` and whose lower bits are those of `x`, less 1.
+pub(crate) fn topped(x: u64, b: u32) -> u64
+    requires { ⌜ b ≤ 20 ⌝ }
+    ensures { λ r. ⌜ (r ≡ x % 2 ^ b + 2 ^ b - 1) × (r < 2 ^ 21) ⌝ }
+{
+    let one = 1u64 << b;
+    x % one + one - 1
+}
+
+// The delta code that the low bits of `w` begin with.
+pub(crate) fn delta_of(w: u64) -> Coded
+    ensures { λ r. ⌜ CodedIn w r ⌝ }
+{
+    let z = u64::trailing_zeros(w);
+    if 4 < z {
+        return Coded::Unseen;
+    }
+    let b = topped(w >> (z + 1), z);
+    if 20 < b {
+        return Coded::Unseen;
+    }
+    let v = topped(w >> (2 * z + 1), b as u32);
+    Coded::Code {
+        value: v as u32,
+        count: (2 * z + 1) as usize + b as usize,
+    }
+}
+
+// The value of the delta code at bit place `at`. Where a window of bits does not show one whole, the plain
+// reader decides.
+pub(crate) fn read_delta(bytes: &[u8], at: usize) -> Found
+    requires { ⌜ length (now bytes) < 2 ^ 60 ⌝ }
+    ensures { λ r. ⌜ FoundAt readDelta (now (bytes .entry)) at r ⌝ }
+{
+    let end = bytes.len() * 8;
+    if end <= at {
+        return delta_at(bytes, at);
+    }
+    let w = crate::bits::window_at(bytes, at / 8) >> (at % 8);
+    let Coded::Code { value, count } = delta_of(w) else {
+        return delta_at(bytes, at);
+    };
+    if end < at + count {
+        return delta_at(bytes, at);
+    }
+    Found::Value {
+        value,
+        next: at + count,
+    }
+}
+
+// A code as a number and its count of bits, lowest first.
+pub(crate) struct Word {
+    pub(crate) value: u64,
+    pub(crate) count: u32,
+}
+
+// The place of a number's highest set bit, and the number without that bit.
+pub(crate) struct Split {
+    pub(crate) bit: u32,
+    pub(crate) low: u64,
+}
+
+pub(crate) fn split_top(s: u32) -> Split
+    requires { ⌜ 0 < s ⌝ }
+    ensures { λ r. ⌜ SplitOf s r ⌝ }
+{
+    let bit = 31 - u32::leading_zeros(s);
+    Split {
+        bit,
+        low: (s as u64) - (1u64 << bit),
+    }
+}
+
+// The gamma code of `v`.
+pub(crate) fn gamma_word(v: u32) -> Word
+    requires { ⌜ v ≤ 20 ⌝ }
+    ensures { λ r. ⌜ WordOf r (gamma v) × (r .count ≤ 9) ⌝ }
+{
+    let s = split_top(v + 1);
+    Word {
+        value: (2 * s.low + 1) << s.bit,
+        count: 2 * s.bit + 1,
+    }
+}
+
+// The delta code of `v`.
+pub(crate) fn delta_word(v: u32) -> Word
+    requires { ⌜ v ≤ 2 ^ 20 ⌝ }
+    ensures { λ r. ⌜ WordOf r (delta v) × (r .count ≤ 29) ⌝ }
+{
+    let s = split_top(v + 1);
+    let g = gamma_word(s.bit);
+    Word {
+        value: g.value + (s.low << g.count),
+        count: g.count + s.bit,
+    }
+}
+
+// How many bits the delta code of `v` has.
+pub(crate) fn delta_len(v: u32) -> usize
+    requires { ⌜ v ≤ 2 ^ 20 ⌝ }
+    ensures { λ r. ⌜ (r ≡ length (delta v)) × (r ≤ 29) ⌝ }
+{
+    let b = 31 - u32::leading_zeros(v + 1);
+    let g = 31 - u32::leading_zeros(b + 1);
+    (2 * g + 1 + b) as usize
+}
+
+// The delta code of `v` behind the bits of `w`.
+pub(crate) fn write_delta(out: &mut [u8], w: BitWriter, v: u32) -> BitWriter
+    requires { ⌜ (v ≤ 2 ^ 20) × Ready (now out) w (length (delta v)) ⌝ }
+    ensures { λ r. ⌜ Wrote (now (out .entry)) (now (out .exit)) w r (delta v) ⌝ }
+{
+    let c = delta_word(v);
+    crate::bits::push(out, w, c.value, c.count)
+}
