@@ -106,7 +106,7 @@ pub(crate) fn delta_of(w: u64) -> Coded
 
 // The value of the delta code at bit place `at`. Where a window of bits does not show one whole, the plain
 // reader decides.
-pub(crate) fn read_delta(bytes: &[u8], at: usize) -> Found
+pub(crate) fn window_delta(bytes: &[u8], at: usize) -> Found
     requires { ⌜ length (now bytes) < 2 ^ 60 ⌝ }
     ensures { λ r. ⌜ FoundAt readDelta (now (bytes .entry)) at r ⌝ }
 {
@@ -121,6 +121,25 @@ pub(crate) fn read_delta(bytes: &[u8], at: usize) -> Found
     if end < at + count {
         return delta_at(bytes, at);
     }
+    Found::Value {
+        value,
+        next: at + count,
+    }
+}
+
+// The same, short enough to stand in the readers' loops: one load where eight bytes are left.
+pub(crate) fn read_delta(bytes: &[u8], at: usize) -> Found
+    requires { ⌜ length (now bytes) < 2 ^ 60 ⌝ }
+    ensures { λ r. ⌜ FoundAt readDelta (now (bytes .entry)) at r ⌝ }
+{
+    let k = at / 8;
+    if bytes.len() < k + 8 {
+        return window_delta(bytes, at);
+    }
+    let w = crate::bits::word_at(bytes, k) >> (at % 8);
+    let Coded::Code { value, count } = delta_of(w) else {
+        return window_delta(bytes, at);
+    };
     Found::Value {
         value,
         next: at + count,

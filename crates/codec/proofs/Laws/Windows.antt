@@ -12,6 +12,9 @@ use lib.Count.{trailingZeros, under}
 use lib.Pow.{pow-pos, pow-mono}
 use Rattle.codec.specs.Bits.{isOne, lowBits, valueOf, bitsOf}
 use Rattle.codec.specs.Codes.{highBit, gamma, delta, Read, got, end, andThen, readZeros, readLow, readGamma, readDelta}
+use Rattle.codec.specs.Windows.{Window}
+use Rattle.codec.specs.Places.{FoundAt}
+use Rattle.codec.specs.declared.codes.Found.the-variants.{Value}
 use Rattle.codec.proofs.Laws.Low.{length-low, low-add, low-mod, low-join, value-low, length-bits}
 use Rattle.codec.proofs.Laws.Codes.{high-unique, delta-read}
 use Rattle.codec.proofs.Laws.Bits.{low-top, low-more, joined-lt}
@@ -155,3 +158,15 @@ tail-window bits n r e small h =
       ap₂ (λ (l : List Bool) (m : ℕ). l ++ replicate m false) e z ∙ ap (λ (l : List Bool). lowBits n r ++ l) (sym (replicate-append-replicate (64 - n) n false))
           ∙ sym (append-assoc (lowBits n r) (replicate (64 - n) false) (replicate n false)) ∙ ap (λ (l : List Bool). l ++ replicate n false) (sym (low-more n (64 - n) r small) ∙ ap (λ (m : ℕ). lowBits m r) (sym k)),
     )
+
+-- eight bytes, with zeros behind all
+pub word-window : (bits : List Bool) (r : ℕ) (rest : List Bool) → bits ≡ lowBits 64 r ++ rest → (tail : List Bool) × (bits ++ replicate 64 false ≡ lowBits 64 r ++ tail)
+word-window bits r rest e = (_, ap (λ (l : List Bool). l ++ replicate 64 false) e ∙ append-assoc (lowBits 64 r) rest (replicate 64 false))
+
+-- a code that a window shows whole is the one that is read
+pub window-found : (xs : List ℕ) (at r : ℕ) → Window xs (at / 8) r → (v n : ℕ) → (lowBits n (r / 2 ^ (at % 8)) ≡ delta v) × (n ≤ 29) → at + n ≤ 8 * length xs → FoundAt readDelta xs at (Value v (at + n))
+window-found xs at r w v n c h =
+    let shown = window xs at r (w .0) (w .1) (omega arith) in
+    let bits : List Bool = drop at (bitsOf xs) in
+    let are : n ≤ length bits = rw (length-drop at (bitsOf xs), length-bits xs) (omega arith) in
+    (window-code bits (r / 2 ^ (at % 8)) n (shown .0) (shown .1) (omega (arith, c .1)) are v (c .0) ∙ ap (got v) (drop-drop n at (bitsOf xs)), h)

@@ -2,12 +2,12 @@
 use Prim.Native.Nat.{ℕ, _+_, _-_, _*_, _^_, _≤_, _<_}
 use mathlib.Core.Path.{_≡_, refl, sym, ap, _∙_}
 use mathlib.Core.Bool.{Bool, false}
-use mathlib.Core.List.{List, [], _++_, append-assoc}
+use mathlib.Core.List.{List, [], _++_}
 use native.Mathlib.Omega.{arith}
 use lib.ListN.{length, drop, replicate, drop-of-length-le}
 use denote.Ref.{now}
 use Rattle.codec.specs.Bits.{bitsOf, lowBits}
-use Rattle.codec.proofs.Laws.Windows.{tail-window}
+use Rattle.codec.proofs.Laws.Windows.{tail-window, word-window}
 use borrow.Author.Needs.{needs}
 use Rattle.codec.proofs.bits.window_at.Statement.{statement}
 use Rattle.codec.proofs.bits.window_at.Tie as tie
@@ -26,10 +26,7 @@ word-at-requires c κs = search needs
 
 -- src/bits.rt:78:9
 returns : tie.Need-returns
-returns c =
-    let xs = now (c .before .before .before .args .bytes) in
-    let k = c .before .before .before .args .k in
-    (_, ap (λ (l : List Bool). l ++ replicate 64 false) (c .word-at .ensures) ∙ append-assoc (lowBits 64 (c .word-at .result)) (bitsOf (drop (k + 8) xs)) (replicate 64 false))
+returns c = word-window _ (c .word-at .result) _ (c .word-at .ensures)
 
 -- src/bits.rt:81:9
 returns-2 : tie.Need-returns-2
