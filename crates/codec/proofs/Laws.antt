@@ -3,6 +3,7 @@ pub mod Low
 pub mod Bits
 pub mod Writers
 pub mod Codes
+pub mod Tables
 pub mod Windows
 pub mod Places
 pub mod Prefix

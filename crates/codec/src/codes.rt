@@ -3,7 +3,8 @@ use crate::bits::BitWriter;
 ghost use mathlib.Core.Path.{_≡_};
 ghost use Prim.Native.Nat.{_+_, _-_, _*_, _%_, _<_, _≤_, _^_};
 ghost use lib.ListN.{length};
-ghost use Rattle.codec.specs.Codes.{gamma, delta, readLow, readGamma, readDelta};
+ghost use Rattle.codec.specs.Bits.{lowBits};
+ghost use Rattle.codec.specs.Codes.{highBit, gamma, delta, readLow, readGamma, readDelta};
 ghost use Rattle.codec.specs.Places.{FoundAt};
 ghost use Rattle.codec.specs.Windows.{CodedIn};
 ghost use Rattle.codec.specs.Writers.{Ready, Wrote, WordOf, SplitOf};
@@ -169,16 +170,71 @@ pub(crate) fn split_top(s: u32) -> Split
     }
 }
 
-// The gamma code of `v`.
-pub(crate) fn gamma_word(v: u32) -> Word
-    requires { ⌜ v ≤ 20 ⌝ }
-    ensures { λ r. ⌜ WordOf r (gamma v) × (r .count ≤ 9) ⌝ }
+// The gamma codes of 0 to 20, as numbers. A table, since finding a highest set bit is slow on many
+// processors.
+const GAMMA: [u16; 21] = [
+    1,
+    2,
+    6,
+    4,
+    12,
+    20,
+    28,
+    8,
+    24,
+    40,
+    56,
+    72,
+    88,
+    104,
+    120,
+    16,
+    48,
+    80,
+    112,
+    144,
+    176,
+];
+
+// How many bits the delta code of a number has whose highest set bit, 1 added, is bit 0 to 20.
+const DELTA_LEN: [u8; 21] = [
+    1,
+    4,
+    5,
+    8,
+    9,
+    10,
+    11,
+    14,
+    15,
+    16,
+    17,
+    18,
+    19,
+    20,
+    21,
+    24,
+    25,
+    26,
+    27,
+    28,
+    29,
+];
+
+// How many bits a delta code has, by the highest set bit of its number and 1.
+fn top_len(bit: u32) -> u32
+    requires { ⌜ bit ≤ 20 ⌝ }
+    ensures { λ r. ⌜ (r ≡ 2 * highBit (bit + 1) + 1 + bit) × (r ≤ 29) ⌝ }
 {
-    let s = split_top(v + 1);
-    Word {
-        value: (2 * s.low + 1) << s.bit,
-        count: 2 * s.bit + 1,
-    }
+    DELTA_LEN[bit as usize] as u32
+}
+
+// The gamma code of `v` as a number.
+fn gamma_value(v: u32) -> u64
+    requires { ⌜ v ≤ 20 ⌝ }
+    ensures { λ r. ⌜ (lowBits (2 * highBit (v + 1) + 1) r ≡ gamma v) × (r < 2 ^ (2 * highBit (v + 1) + 1)) ⌝ }
+{
+    GAMMA[v as usize] as u64
 }
 
 // The delta code of `v`.
@@ -187,10 +243,10 @@ pub(crate) fn delta_word(v: u32) -> Word
     ensures { λ r. ⌜ WordOf r (delta v) × (r .count ≤ 29) ⌝ }
 {
     let s = split_top(v + 1);
-    let g = gamma_word(s.bit);
+    let count = top_len(s.bit);
     Word {
-        value: g.value + (s.low << g.count),
-        count: g.count + s.bit,
+        value: gamma_value(s.bit) + (s.low << (count - s.bit)),
+        count,
     }
 }
 
@@ -199,9 +255,7 @@ pub(crate) fn delta_len(v: u32) -> usize
     requires { ⌜ v ≤ 2 ^ 20 ⌝ }
     ensures { λ r. ⌜ (r ≡ length (delta v)) × (r ≤ 29) ⌝ }
 {
-    let b = 31 - u32::leading_zeros(v + 1);
-    let g = 31 - u32::leading_zeros(b + 1);
-    (2 * g + 1 + b) as usize
+    top_len(31 - u32::leading_zeros(v + 1)) as usize
 }
 
 // The delta code of `v` behind the bits of `w`.

@@ -76,19 +76,6 @@ unfolding lowBits
 low-zero zero = refl
 low-zero (suc b) = ap (λ (l : List Bool). false ∷ l) (low-zero b)
 
-odd-low : (b n : ℕ) → lowBits (b + 1) (2 * n + 1) ≡ true ∷ lowBits b n
-unfolding lowBits
-odd-low b n =
-    let r : (2 * n + 1) % 2 ≡ 1 = omega arith in
-    let q : (2 * n + 1) / 2 ≡ n = omega arith in
-    rw (add-one b, r, q)
-
-pub gamma-low : (v b n : ℕ) → b ≡ highBit (v + 1) → n + 2 ^ b ≡ v + 1 → n < 2 ^ b → lowBits (2 * b + 1) ((2 * n + 1) * 2 ^ b) ≡ gamma v
-unfolding gamma
-gamma-low v b n e s h =
-    let k : 2 * b + 1 ≡ b + (b + 1) = omega arith in
-    rw (k, ← zero-add ((2 * n + 1) * 2 ^ b), low-join b (b + 1) 0 (2 * n + 1) (pow-pos b), low-zero b, odd-low b n, ← e, ← s, low-top b n h)
-
 pub delta-low : (v b n k g : ℕ) → b ≡ highBit (v + 1) → n + 2 ^ b ≡ v + 1 → n < 2 ^ b → g < 2 ^ k → lowBits k g ≡ gamma b → lowBits (k + b) (g + n * 2 ^ k) ≡ delta v
 unfolding delta
 delta-low v b n k g e s h l c = rw (low-join k b g n l, c, ← e, ← s, low-top b n h)
