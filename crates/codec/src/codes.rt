@@ -6,7 +6,7 @@ ghost use lib.ListN.{length};
 ghost use Rattle.codec.specs.Bits.{lowBits};
 ghost use Rattle.codec.specs.Codes.{highBit, gamma, delta, readLow, readGamma, readDelta};
 ghost use Rattle.codec.specs.Places.{FoundAt};
-ghost use Rattle.codec.specs.Windows.{CodedIn};
+ghost use Rattle.codec.specs.Windows.{Window, CodedIn};
 ghost use Rattle.codec.specs.Writers.{Ready, Wrote, WordOf, SplitOf};
 
 // A value and the bit place behind its code, or that none is there that a set needs.
@@ -107,7 +107,7 @@ pub(crate) fn delta_of(w: u64) -> Coded
 
 // The value of the delta code at bit place `at`. Where a window of bits does not show one whole, the plain
 // reader decides.
-pub(crate) fn window_delta(bytes: &[u8], at: usize) -> Found
+pub(crate) fn read_delta(bytes: &[u8], at: usize) -> Found
     requires { ⌜ length (now bytes) < 2 ^ 60 ⌝ }
     ensures { λ r. ⌜ FoundAt readDelta (now (bytes .entry)) at r ⌝ }
 {
@@ -128,18 +128,42 @@ pub(crate) fn window_delta(bytes: &[u8], at: usize) -> Found
     }
 }
 
-// The same, short enough to stand in the readers' loops: one load where eight bytes are left.
-pub(crate) fn read_delta(bytes: &[u8], at: usize) -> Found
-    requires { ⌜ length (now bytes) < 2 ^ 60 ⌝ }
+// The same where `short` is the window at the first bit: of a payload of fewer than eight bytes it shows all.
+pub(crate) fn short_delta(bytes: &[u8], short: u64, at: usize) -> Found
+    requires { ⌜ (length (now bytes) < 2 ^ 60) × Window (now bytes) 0 short ⌝ }
+    ensures { λ r. ⌜ FoundAt readDelta (now (bytes .entry)) at r ⌝ }
+{
+    if 8 <= bytes.len() {
+        return read_delta(bytes, at);
+    }
+    let end = bytes.len() * 8;
+    if end <= at {
+        return delta_at(bytes, at);
+    }
+    let Coded::Code { value, count } = delta_of(short >> at) else {
+        return delta_at(bytes, at);
+    };
+    if end < at + count {
+        return delta_at(bytes, at);
+    }
+    Found::Value {
+        value,
+        next: at + count,
+    }
+}
+
+// The same, small enough to stand in the readers' loops: one load where eight bytes are left.
+pub(crate) fn next_delta(bytes: &[u8], short: u64, at: usize) -> Found
+    requires { ⌜ (length (now bytes) < 2 ^ 60) × Window (now bytes) 0 short ⌝ }
     ensures { λ r. ⌜ FoundAt readDelta (now (bytes .entry)) at r ⌝ }
 {
     let k = at / 8;
     if bytes.len() < k + 8 {
-        return window_delta(bytes, at);
+        return short_delta(bytes, short, at);
     }
     let w = crate::bits::word_at(bytes, k) >> (at % 8);
     let Coded::Code { value, count } = delta_of(w) else {
-        return window_delta(bytes, at);
+        return short_delta(bytes, short, at);
     };
     Found::Value {
         value,

@@ -153,6 +153,7 @@ pub(crate) fn same_gaps(bytes: &[u8], at: usize, ids: &[u32], n: u32, dense: boo
     requires { ⌜ (length (now bytes) < 2 ^ 60) × (at ≤ 8 * length (now bytes)) ⌝ }
     ensures { λ r. ⌜ BitsAt (gapBits 0 (codedIds dense n (now (ids .entry)))) (now (bytes .entry)) at r ⌝ }
 {
+    let short = crate::bits::window_at(bytes, 0);
     let mut c = Cursor { i: 0, from: 0 };
     let mut place = at;
     loop {
@@ -163,7 +164,7 @@ pub(crate) fn same_gaps(bytes: &[u8], at: usize, ids: &[u32], n: u32, dense: boo
         let Found::Value {
             value,
             next: behind,
-        } = crate::codes::read_delta(bytes, place)
+        } = crate::codes::next_delta(bytes, short, place)
         else {
             return Checked::Bad;
         };
@@ -181,11 +182,12 @@ pub(crate) fn check_gaps(bytes: &[u8], at: usize, n: usize, top: u32) -> Checked
     requires { ⌜ top ≤ 2 ^ 20 ⌝ }
     ensures { λ r. ⌜ IdsAt (readGaps n 0 top) (now (bytes .entry)) at r ⌝ }
 {
+    let short = crate::bits::window_at(bytes, 0);
     let mut place = at;
     let mut from: u32 = 0;
     let mut i: usize = 0;
     while i < n {
-        let Found::Value { value, next } = crate::codes::read_delta(bytes, place) else {
+        let Found::Value { value, next } = crate::codes::next_delta(bytes, short, place) else {
             return Checked::Bad;
         };
         if top - from <= value {
@@ -204,11 +206,12 @@ pub(crate) fn fill_gaps(bytes: &[u8], at: usize, n: usize, top: u32, out: &mut [
     requires { ⌜ Accepted (readGaps n 0 top (drop at (bitsOf (now bytes)))) ⌝ }
     ensures { λ _. ⌜ now (out .exit) ≡ over (idsIn (readGaps n 0 top (drop at (bitsOf (now (bytes .entry)))))) (now (out .entry)) ⌝ }
 {
+    let short = crate::bits::window_at(bytes, 0);
     let mut place = at;
     let mut from: u32 = 0;
     let mut i: usize = 0;
     while i < n {
-        let Found::Value { value, next } = crate::codes::read_delta(bytes, place) else {
+        let Found::Value { value, next } = crate::codes::next_delta(bytes, short, place) else {
             return;
         };
         let id = from + value;
@@ -238,12 +241,13 @@ pub(crate) fn fill_left_out(bytes: &[u8], at: usize, n: usize, top: u32, out: &m
     requires { ⌜ Accepted (readGaps n 0 top (drop at (bitsOf (now bytes)))) ⌝ }
     ensures { λ _. ⌜ now (out .exit) ≡ over (absent top (idsIn (readGaps n 0 top (drop at (bitsOf (now (bytes .entry))))))) (now (out .entry)) ⌝ }
 {
+    let short = crate::bits::window_at(bytes, 0);
     let mut place = at;
     let mut from: u32 = 0;
     let mut k: usize = 0;
     let mut i: usize = 0;
     while i < n {
-        let Found::Value { value, next } = crate::codes::read_delta(bytes, place) else {
+        let Found::Value { value, next } = crate::codes::next_delta(bytes, short, place) else {
             return;
         };
         let id = from + value;

@@ -170,3 +170,22 @@ window-found xs at r w v n c h =
     let bits : List Bool = drop at (bitsOf xs) in
     let are : n ≤ length bits = rw (length-drop at (bitsOf xs), length-bits xs) (omega arith) in
     (window-code bits (r / 2 ^ (at % 8)) n (shown .0) (shown .1) (omega (arith, c .1)) are v (c .0) ∙ ap (got v) (drop-drop n at (bitsOf xs)), h)
+
+-- the same, in the window at the first bit
+pub short-found : (xs : List ℕ) (at r : ℕ) → Window xs 0 r → (v n : ℕ) → (lowBits n (r / 2 ^ at) ≡ delta v) × (n ≤ 29) → at + n ≤ 8 * length xs → at + n ≤ 64 → FoundAt readDelta xs at (Value v (at + n))
+short-found xs at r w v n c h few =
+    let bits : List Bool = bitsOf xs in
+    let rest : ℕ = 64 - (at + n) in
+    let q : 64 ≡ at + (n + rest) = omega arith in
+    let x : ℕ = r / 2 ^ at in
+    let inside : at ≤ length bits = rw (length-bits xs) (omega arith) in
+    let are : n ≤ length (drop at bits) = rw (length-drop at bits, length-bits xs) (omega arith) in
+    let u : lowBits 64 r ++ w .0 ≡ lowBits at r ++ (lowBits (n + rest) x ++ w .0) =
+    ap (λ (m : ℕ). lowBits m r ++ w .0) q ∙ ap (λ (l : List Bool). l ++ w .0) (low-add at (n + rest) r) ∙ append-assoc (lowBits at r) (lowBits (n + rest) x) (w .0)
+    in
+    let s : drop at bits ++ replicate 64 false ≡ lowBits n x ++ (lowBits rest (x / 2 ^ n) ++ w .0) =
+    sym (drop-append-le at bits (replicate 64 false) inside) ∙ ap (drop at) (w .1 ∙ u) ∙ drop-at (lowBits at r) (lowBits (n + rest) x ++ w .0) at (length-low at r)
+    ∙ ap (λ (l : List Bool). l ++ w .0) (low-add n rest x) ∙ append-assoc (lowBits n x) (lowBits rest (x / 2 ^ n)) (w .0)
+    in
+    let shown : take n (drop at bits) ≡ delta v = sym (take-append-le n (drop at bits) (replicate 64 false) are) ∙ ap (take n) s ∙ take-at (lowBits n x) (lowBits rest (x / 2 ^ n) ++ w .0) n (length-low n x) ∙ c .0 in
+    (ap readDelta (sym (take-append-drop n (drop at bits)) ∙ ap (λ (l : List Bool). l ++ drop n (drop at bits)) shown) ∙ delta-read v (drop n (drop at bits)) ∙ ap (got v) (drop-drop n at bits), h)

@@ -1,86 +1,103 @@
--- `codec::read_delta` meets its contract.
-use Prim.Native.Nat.{ℕ, _+_, _/_, _%_, _^_}
-use mathlib.Core.Path.{_≡_, subst}
+-- `codec::read_delta` meets its contract: a code that the window shows whole is the one that is read.
+use Prim.Native.Nat.{ℕ, _+_, _*_, _/_, _%_, _^_, _≤_, _<_}
+use mathlib.Core.Path.{_≡_, refl, sym, ap, _∙_, subst}
 use native.Mathlib.Omega.{arith}
 use denote.Ref.{now}
 use Rattle.codec.specs.Windows.{CodedIn}
-use Rattle.codec.specs.declared.codes.Coded.the-variants.{Code}
-use Rattle.codec.proofs.Laws.Windows.{word-window, window-found}
+use Rattle.codec.specs.declared.codes.Coded.the-variants.{Code, Unseen}
+use Rattle.codec.proofs.Laws.Windows.{window-found}
 use borrow.Author.Needs.{needs}
 use Rattle.codec.proofs.codes.read_delta.Statement.{statement}
 use Rattle.codec.proofs.codes.read_delta.Tie as tie
 use Rattle.codec.proofs.codes.read_delta.Reads as reads
 use Rattle.codec.proofs.codes.read_delta.Lts as lts
-use Rattle.codec.proofs.bits.word_at.Reads as word-at-reads
+use Rattle.codec.proofs.bits.window_at.Reads as window-at-reads
+use Rattle.codec.proofs.codes.delta_at.Reads as delta-at-reads
 use Rattle.codec.proofs.codes.delta_of.Reads as delta-of-reads
-use Rattle.codec.proofs.codes.window_delta.Reads as window-delta-reads
 
--- src/codes.rt:136:22
-add-if1 : tie.Need-add-if1
-add-if1 c = search needs
+-- src/codes.rt:113:15
+mul-end : tie.Need-mul-end
+mul-end c = search needs
 
--- src/codes.rt:137:9
-window-delta-requires : tie.Need-window-delta-requires
-window-delta-requires c κs = search needs
+-- src/codes.rt:115:9
+delta-at-requires : tie.Need-delta-at-requires
+delta-at-requires c κs = search needs
 
--- src/codes.rt:137:9
+-- src/codes.rt:115:9
 returns : tie.Need-returns
 returns c = search needs
 
--- src/codes.rt:139:13
-word-at-requires : tie.Need-word-at-requires
-word-at-requires c κs = search needs
+-- src/codes.rt:117:13
+window-at-requires : tie.Need-window-at-requires
+window-at-requires c κs = search needs
 
--- src/codes.rt:139:13
+-- src/codes.rt:117:13
 shr-w : tie.Need-shr-w
 shr-w c = search needs
 
--- src/codes.rt:140:40
+-- src/codes.rt:118:40
 delta-of-requires : tie.Need-delta-of-requires
 delta-of-requires c κs = search needs
 
--- src/codes.rt:140:23
+-- src/codes.rt:118:23
 enum-known-value : tie.Need-enum-known-value
 enum-known-value c = search needs
 
--- src/codes.rt:141:9
+-- src/codes.rt:119:9
 enum-told : tie.Need-enum-told
 enum-told c = search needs
 
--- src/codes.rt:141:9
-window-delta-requires-2 : tie.Need-window-delta-requires-2
-window-delta-requires-2 c κs = search needs
+-- src/codes.rt:119:9
+delta-at-requires-2 : tie.Need-delta-at-requires-2
+delta-at-requires-2 c κs = search needs
 
--- src/codes.rt:141:9
+-- src/codes.rt:119:9
 returns-2 : tie.Need-returns-2
 returns-2 c = search needs
 
-code : (c : tie.After-known-told) → CodedIn (c .before .before .before .before .word-at .result / 2 ^ (c .before .before .before .before .before .before .before .args .at % 8)) (Code (c .before .value .given .0 .0) (c .before .value .given .0 .1 .0))
-code c = subst (CodedIn (c .before .before .before .before .word-at .result / 2 ^ (c .before .before .before .before .before .before .before .args .at % 8))) (c .before .value .given .1) (c .before .before .before .delta-of .ensures)
+-- src/codes.rt:121:14
+code : (c : tie.After-known-told) → CodedIn (c .before .before .before .before .window-at .result / 2 ^ (c .before .before .before .before .before .before .before .args .at % 8)) (Code (c .before .value .given .0 .0) (c .before .value .given .0 .1 .0))
+code c = subst (CodedIn (c .before .before .before .before .window-at .result / 2 ^ (c .before .before .before .before .before .before .before .args .at % 8))) (c .before .value .given .1) (c .before .before .before .delta-of .ensures)
 
-add-t8 : tie.Need-add-t8
-add-t8 c = omega (arith, code c .1)
+add-if2 : tie.Need-add-if2
+add-if2 c = omega (arith, code c .1)
 
--- src/codes.rt:131:1
+-- src/codes.rt:122:9
+delta-at-requires-3 : tie.Need-delta-at-requires-3
+delta-at-requires-3 c κs = search needs
+
+-- src/codes.rt:122:9
 returns-3 : tie.Need-returns-3
-returns-3 c =
-    let w = c .before .before .before .before in
+returns-3 c = search needs
+
+-- src/codes.rt:126:15
+add-t10 : tie.Need-add-t10
+add-t10 c = search needs
+
+-- src/codes.rt:109:1
+returns-4 : tie.Need-returns-4
+returns-4 c =
+    let k = c .before in
+    let w = k .before .before .before .before in
     let start = w .before .before .before in
-    window-found (now (start .args .bytes)) (start .args .at) (w .word-at .result) (word-window _ (w .word-at .result) _ (w .word-at .ensures)) _ _ (code c) (omega (arith, code c .1))
+    window-found (now (start .args .bytes)) (start .args .at) (w .window-at .result) (w .window-at .ensures) _ _ (code k) (omega arith)
 
 pub read-delta-spec : {M : Type 1} → statement M
 read-delta-spec =
     tie.close
     (tie.spec
-    add-if1
-    window-delta-requires
+    mul-end
+    delta-at-requires
     returns
-    word-at-requires
+    window-at-requires
     shr-w
     delta-of-requires
     enum-known-value
     enum-told
-    window-delta-requires-2
+    delta-at-requires-2
     returns-2
-    add-t8
-    returns-3)
+    add-if2
+    delta-at-requires-3
+    returns-3
+    add-t10
+    returns-4)

@@ -19,21 +19,24 @@ use Rattle.codec.proofs.gaps.fill_gaps.Tie as tie
 
 -- the ids read are written, and the others are yet to be read
 abbrev Inv-loop : tie.InvT-loop
-Inv-loop bytes at n top out₀ place₀ from₀ i₀ out place from i =
+Inv-loop bytes at n top out₀ short place₀ from₀ i₀ out place from i =
     (i ≤ n) × (from ≤ top) × (length out ≡ length out₀)
     × ((xs : List ℕ) × (ys : List ℕ) × (length xs ≡ i) × (out ≡ over xs out₀) × (idsIn (readGaps n 0 top (drop at (bitsOf bytes))) ≡ xs ++ ys) × Left n i from top (drop place (bitsOf bytes)) ys)
 
 abbrev μ-loop : tie.MeasureT-loop
-μ-loop bytes at n top out₀ place₀ from₀ i₀ out place from i = n - i
+μ-loop bytes at n top out₀ short place₀ from₀ i₀ out place from i = n - i
+
+window-at-requires : tie.Need-window-at-requires Inv-loop μ-loop
+window-at-requires c κs = omega arith
 
 loop-holds : tie.Need-loop-holds Inv-loop μ-loop
 loop-holds c =
-    let start = c .before .before in
+    let start = c .before .before .before in
     let a = start .pre .1 in
     (omega arith, omega arith, refl, ([], a .0, refl, sym (over-none _), ap idsIn (a .2), left-all _ _ _ _ (a .1) (a .2)))
 
-read-delta-requires : tie.Need-read-delta-requires Inv-loop μ-loop
-read-delta-requires c κs = omega arith
+next-delta-requires : tie.Need-next-delta-requires Inv-loop μ-loop
+next-delta-requires c κs = (search needs, c .before .before .window-at .ensures)
 
 enum-known-value : tie.Need-enum-known-value Inv-loop μ-loop
 enum-known-value c = search needs
@@ -45,20 +48,20 @@ same-length : tie.Need-same-length Inv-loop μ-loop
 same-length c = search needs
 
 turn : (c : tie.After-known-told Inv-loop μ-loop)
-    → Turn (c .before .before .before .before .before .before .before .before .args .n) (c .before .before .before .before .before .loop .i) (c .before .before .before .before .before .loop .from) (c .before .before .before .before .before .before .before .before .args .top) (c .before .value .given .0 .0)
-    (drop (c .before .value .given .0 .1 .0) (bitsOf (now (c .before .before .before .before .before .before .before .before .args .bytes)))) (c .before .before .before .before .before .loop .inv .3 .1)
+    → Turn (c .before .before .before .before .before .before .before .before .before .args .n) (c .before .before .before .before .before .loop .i) (c .before .before .before .before .before .loop .from) (c .before .before .before .before .before .before .before .before .before .args .top) (c .before .value .given .0 .0)
+    (drop (c .before .value .given .0 .1 .0) (bitsOf (now (c .before .before .before .before .before .before .before .before .before .args .bytes)))) (c .before .before .before .before .before .loop .inv .3 .1)
 turn c =
     let l = c .before .before .before .before .before in
-    let start = l .before .before .before in
-    let f = subst (FoundAt readDelta (now (start .args .bytes)) (l .loop .place)) (c .before .value .given .1) (c .before .before .before .read-delta .ensures) in
+    let start = l .before .before .before .before in
+    let f = subst (FoundAt readDelta (now (start .args .bytes)) (l .loop .place)) (c .before .value .given .1) (c .before .before .before .next-delta .ensures) in
     left-turn _ _ _ _ _ _ (l .loop .inv .3 .5) (c .before .before .before .before .loop-test .taken) _ _ (f .0)
 
 returns : tie.Need-returns Inv-loop μ-loop
 returns c =
     let d = c .before .before in
     let l = d .before .before in
-    let start = l .before .before .before in
-    left-there _ _ _ _ _ _ (l .loop .inv .3 .5) (d .before .loop-test .taken) (start .pre .0 .1) (subst (FoundAt readDelta (now (start .args .bytes)) (l .loop .place)) (c .enum-told .given .1) (d .read-delta .ensures))
+    let start = l .before .before .before .before in
+    left-there _ _ _ _ _ _ (l .loop .inv .3 .5) (d .before .loop-test .taken) (start .pre .0 .1) (subst (FoundAt readDelta (now (start .args .bytes)) (l .loop .place)) (c .enum-told .given .1) (d .next-delta .ensures))
 
 add-id : tie.Need-add-id Inv-loop μ-loop
 add-id c = omega (arith, turn c .below)
@@ -106,7 +109,7 @@ returns-2 c =
     let l = c .before in
     let v = l .loop .inv .3 in
     let e : v .1 ≡ [] = left-none _ _ _ _ _ _ (v .5) (omega arith) in
-    v .3 ∙ ap (λ (x : List ℕ). over x (now (l .before .before .before .args .out))) (sym (v .4 ∙ ap (λ (y : List ℕ). v .0 ++ y) e ∙ append-nil (v .0)))
+    v .3 ∙ ap (λ (x : List ℕ). over x (now (l .before .before .before .before .args .out))) (sym (v .4 ∙ ap (λ (y : List ℕ). v .0 ++ y) e ∙ append-nil (v .0)))
 
 pub fill-gaps-spec : {M : Type 1} → statement M
 fill-gaps-spec =
@@ -114,8 +117,9 @@ fill-gaps-spec =
     (tie.spec
     Inv-loop
     μ-loop
+    window-at-requires
     loop-holds
-    read-delta-requires
+    next-delta-requires
     enum-known-value
     enum-told
     same-length

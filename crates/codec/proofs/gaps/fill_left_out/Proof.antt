@@ -19,21 +19,24 @@ use Rattle.codec.proofs.gaps.fill_left_out.Tie as tie
 
 -- the ids left out below `from` are written, and the coded ones from there on are yet to be read
 abbrev Inv-loop : tie.InvT-loop
-Inv-loop bytes at n top out₀ place₀ from₀ k₀ i₀ out place from k i =
+Inv-loop bytes at n top out₀ short place₀ from₀ k₀ i₀ out place from k i =
     (i ≤ n) × (from ≤ top) × (length out ≡ length out₀) × (k + i ≡ from)
     × ((front : List ℕ) × (ys : List ℕ) × (length front ≡ k) × (out ≡ over front out₀) × (absent top (idsIn (readGaps n 0 top (drop at (bitsOf bytes)))) ≡ front ++ absentFrom from (top - from) ys) × Left n i from top (drop place (bitsOf bytes)) ys)
 
 abbrev μ-loop : tie.MeasureT-loop
-μ-loop bytes at n top out₀ place₀ from₀ k₀ i₀ out place from k i = n - i
+μ-loop bytes at n top out₀ short place₀ from₀ k₀ i₀ out place from k i = n - i
+
+window-at-requires : tie.Need-window-at-requires Inv-loop μ-loop
+window-at-requires c κs = omega arith
 
 loop-holds : tie.Need-loop-holds Inv-loop μ-loop
 loop-holds c =
-    let start = c .before .before in
+    let start = c .before .before .before in
     let a = start .pre .1 in
     (omega arith, omega arith, refl, refl, ([], a .0, refl, sym (over-none _), ap (λ (r : ReadIds). absent (start .args .top) (idsIn r)) (a .2) ∙ absent-all (start .args .top) (a .0), left-all _ _ _ _ (a .1) (a .2)))
 
-read-delta-requires : tie.Need-read-delta-requires Inv-loop μ-loop
-read-delta-requires c κs = search needs
+next-delta-requires : tie.Need-next-delta-requires Inv-loop μ-loop
+next-delta-requires c κs = (search needs, c .before .before .window-at .ensures)
 
 enum-known-value : tie.Need-enum-known-value Inv-loop μ-loop
 enum-known-value c = search needs
@@ -48,19 +51,19 @@ returns : tie.Need-returns Inv-loop μ-loop
 returns c =
     let d = c .before .before in
     let l = d .before .before in
-    let start = l .before .before .before in
-    left-there _ _ _ _ _ _ (l .loop .inv .4 .5) (d .before .loop-test .taken) (start .pre .0 .1) (subst (FoundAt readDelta (now (start .args .bytes)) (l .loop .place)) (c .enum-told .given .1) (d .read-delta .ensures))
+    let start = l .before .before .before .before in
+    left-there _ _ _ _ _ _ (l .loop .inv .4 .5) (d .before .loop-test .taken) (start .pre .0 .1) (subst (FoundAt readDelta (now (start .args .bytes)) (l .loop .place)) (c .enum-told .given .1) (d .next-delta .ensures))
 
 turn : (c : tie.After-known-told Inv-loop μ-loop)
-    → Turn (c .before .before .before .before .before .before .before .before .args .n) (c .before .before .before .before .before .loop .i) (c .before .before .before .before .before .loop .from) (c .before .before .before .before .before .before .before .before .args .top) (c .before .value .given .0 .0)
-    (drop (c .before .value .given .0 .1 .0) (bitsOf (now (c .before .before .before .before .before .before .before .before .args .bytes)))) (c .before .before .before .before .before .loop .inv .4 .1)
+    → Turn (c .before .before .before .before .before .before .before .before .before .args .n) (c .before .before .before .before .before .loop .i) (c .before .before .before .before .before .loop .from) (c .before .before .before .before .before .before .before .before .before .args .top) (c .before .value .given .0 .0)
+    (drop (c .before .value .given .0 .1 .0) (bitsOf (now (c .before .before .before .before .before .before .before .before .before .args .bytes)))) (c .before .before .before .before .before .loop .inv .4 .1)
 turn c =
     let l = c .before .before .before .before .before in
-    let start = l .before .before .before in
-    let f = subst (FoundAt readDelta (now (start .args .bytes)) (l .loop .place)) (c .before .value .given .1) (c .before .before .before .read-delta .ensures) in
+    let start = l .before .before .before .before in
+    let f = subst (FoundAt readDelta (now (start .args .bytes)) (l .loop .place)) (c .before .value .given .1) (c .before .before .before .next-delta .ensures) in
     left-turn _ _ _ _ _ _ (l .loop .inv .4 .5) (c .before .before .before .before .loop-test .taken) _ _ (f .0)
 
-room : (c : tie.After-known-told Inv-loop μ-loop) → c .before .before .before .before .before .loop .from + c .before .value .given .0 .0 + c .before .before .before .before .before .before .before .before .args .n ≤ c .before .before .before .before .before .before .before .before .args .top + c .before .before .before .before .before .loop .i
+room : (c : tie.After-known-told Inv-loop μ-loop) → c .before .before .before .before .before .loop .from + c .before .value .given .0 .0 + c .before .before .before .before .before .before .before .before .before .args .n ≤ c .before .before .before .before .before .before .before .before .before .args .top + c .before .before .before .before .before .loop .i
 room c = turn-room _ _ _ _ _ _ _ (c .before .before .before .before .loop-test .taken) (turn c)
 
 add-id : tie.Need-add-id Inv-loop μ-loop
@@ -83,7 +86,7 @@ loop-again c =
     let k = c .before .before .before .before in
     let f = c .before .before .fill-numbers in
     let l = k .before .before .before .before .before in
-    let start = l .before .before .before in
+    let start = l .before .before .before .before in
     let t = turn k in
     let v = l .loop .inv .4 in
     let old : List ℕ = now (start .args .out) in
@@ -114,7 +117,7 @@ returns-2 : tie.Need-returns-2 Inv-loop μ-loop
 returns-2 c =
     let f = c .before .before .fill-numbers2 in
     let l = c .before .before .before .before .before in
-    let start = l .before .before .before in
+    let start = l .before .before .before .before in
     let v = l .loop .inv .4 in
     let e : v .1 ≡ [] = left-none _ _ _ _ _ _ (v .5) (omega arith) in
     let old : List ℕ = now (start .args .out) in
@@ -127,8 +130,9 @@ fill-left-out-spec =
     (tie.spec
     Inv-loop
     μ-loop
+    window-at-requires
     loop-holds
-    read-delta-requires
+    next-delta-requires
     enum-known-value
     enum-told
     same-length

@@ -20,22 +20,26 @@ use Rattle.codec.proofs.gaps.same_gaps.Statement.{statement}
 use Rattle.codec.proofs.gaps.same_gaps.Tie as tie
 use Rattle.codec.proofs.gaps.same_gaps.Reads as reads
 use Rattle.codec.proofs.gaps.same_gaps.Lts as lts
-use Rattle.codec.proofs.codes.read_delta.Reads as read-delta-reads
+use Rattle.codec.proofs.codes.next_delta.Reads as next-delta-reads
+use Rattle.codec.proofs.bits.window_at.Reads as window-at-reads
 use Rattle.codec.proofs.gaps.next_coded.Reads as next-coded-reads
 
 got-value : {v w : ℕ} {r s : List Bool} → got v r ≡ got w s → v ≡ w
 got-value {v} {w} {r} {s} e = cc
 
 abbrev Inv-loop : tie.InvT-loop
-Inv-loop bytes at ids n dense c₀ place₀ c place =
+Inv-loop bytes at ids n dense short c₀ place₀ c place =
     (done : List Bool) × Coding dense n ids c done × (drop at (bitsOf bytes) ≡ done ++ drop place (bitsOf bytes)) × (place ≤ 8 * length bytes)
 
 abbrev μ-loop : tie.MeasureT-loop
-μ-loop bytes at ids n dense c₀ place₀ c place = n - c .from
+μ-loop bytes at ids n dense short c₀ place₀ c place = n - c .from
+
+window-at-requires : tie.Need-window-at-requires Inv-loop μ-loop
+window-at-requires c κs = omega arith
 
 loop-holds : tie.Need-loop-holds Inv-loop μ-loop
 loop-holds c =
-    let start = c .before .before in
+    let start = c .before .before .before in
     let a = start .args in
     ([], coding-start (a .dense) (a .n) (now (a .ids)) (start .pre .0 .0), refl, start .pre .1 .1)
 
@@ -52,32 +56,32 @@ returns : tie.Need-returns Inv-loop μ-loop
 returns c =
     let d = c .before .before in
     let l = d .before in
-    let a = l .before .before .before .args in
+    let a = l .before .before .before .before .args in
     let e = subst (Gave (a .dense) (a .n) (now (a .ids)) (l .loop .c)) (c .enum-told .given .1) (d .next-coded .ensures) in
     (l .loop .inv .2 ∙ ap (λ (x : List Bool). x ++ drop (l .loop .place) (bitsOf (now (a .bytes)))) (sym (coding-end (a .dense) (a .n) (now (a .ids)) (l .loop .c) (l .loop .inv .0) (l .loop .inv .1) e)), l .loop .inv .3)
 
 -- the id of this turn
 gave : (c : tie.After-known-told Inv-loop μ-loop)
-    → Gave (c .before .before .before .before .before .before .before .args .dense) (c .before .before .before .before .before .before .before .args .n) (now (c .before .before .before .before .before .before .before .args .ids)) (c .before .before .before .before .loop .c)
+    → Gave (c .before .before .before .before .before .before .before .before .args .dense) (c .before .before .before .before .before .before .before .before .args .n) (now (c .before .before .before .before .before .before .before .before .args .ids)) (c .before .before .before .before .loop .c)
     (Id (c .before .id .given .0 .0) (c .before .id .given .0 .1 .0))
 gave c =
     let d = c .before .before .before in
     let l = d .before in
-    let a = l .before .before .before .args in
+    let a = l .before .before .before .before .args in
     subst (Gave (a .dense) (a .n) (now (a .ids)) (l .loop .c)) (c .before .id .given .1) (d .next-coded .ensures)
 
 -- where the bits stand, its code is read
 reads-on : (c : tie.After-known-told Inv-loop μ-loop) (rest : List Bool)
-    → drop (c .before .before .before .before .before .before .before .args .at) (bitsOf (now (c .before .before .before .before .before .before .before .args .bytes)))
-    ≡ gapBits 0 (codedIds (c .before .before .before .before .before .before .before .args .dense) (c .before .before .before .before .before .before .before .args .n) (now (c .before .before .before .before .before .before .before .args .ids))) ++ rest
-    → (more : List Bool) × (readDelta (drop (c .before .before .before .before .loop .place) (bitsOf (now (c .before .before .before .before .before .before .before .args .bytes)))) ≡ got (c .before .id .given .0 .0 - c .before .before .before .before .loop .c .from) more)
+    → drop (c .before .before .before .before .before .before .before .before .args .at) (bitsOf (now (c .before .before .before .before .before .before .before .before .args .bytes)))
+    ≡ gapBits 0 (codedIds (c .before .before .before .before .before .before .before .before .args .dense) (c .before .before .before .before .before .before .before .before .args .n) (now (c .before .before .before .before .before .before .before .before .args .ids))) ++ rest
+    → (more : List Bool) × (readDelta (drop (c .before .before .before .before .loop .place) (bitsOf (now (c .before .before .before .before .before .before .before .before .args .bytes)))) ≡ got (c .before .id .given .0 .0 - c .before .before .before .before .loop .c .from) more)
 reads-on c rest e =
     let l = c .before .before .before .before in
-    let a = l .before .before .before .args in
+    let a = l .before .before .before .before .args in
     coding-read (a .dense) (a .n) (now (a .ids)) (l .loop .c) (l .loop .inv .0) (l .loop .inv .1) (c .before .id .given .0 .0) (c .before .id .given .0 .1 .0) (gave c) _ _ rest (l .loop .inv .2) e
 
-read-delta-requires : tie.Need-read-delta-requires Inv-loop μ-loop
-read-delta-requires c κs = c .before .before .before .before .before .before .before .pre .1 .0
+next-delta-requires : tie.Need-next-delta-requires Inv-loop μ-loop
+next-delta-requires c κs = (search needs, c .before .before .before .before .before .window-at .ensures)
 
 enum-known-value : tie.Need-enum-known-value Inv-loop μ-loop
 enum-known-value c = search needs
@@ -90,17 +94,17 @@ returns-2 c =
     let d = c .before .before in
     let k = d .before in
     let l = k .before .before .before .before in
-    let a = l .before .before .before .args in
-    let none-here = subst (FoundAt readDelta (now (a .bytes)) (l .loop .place)) (c .enum-told2 .given .1) (d .read-delta .ensures) in
+    let a = l .before .before .before .before .args in
+    let none-here = subst (FoundAt readDelta (now (a .bytes)) (l .loop .place)) (c .enum-told2 .given .1) (d .next-delta .ensures) in
     λ rest e. let m = reads-on k rest e in omega (arith, none-here _ _ (m .1), gave k .2)
 
 -- what the turn read
 found : (c : tie.After-known-told2 Inv-loop μ-loop)
-    → FoundAt readDelta (now (c .before .before .before .before .before .before .before .before .before .before .before .args .bytes)) (c .before .before .before .before .before .before .before .before .loop .place) (Value (c .before .value .given .0 .0) (c .before .value .given .0 .1 .0))
+    → FoundAt readDelta (now (c .before .before .before .before .before .before .before .before .before .before .before .before .args .bytes)) (c .before .before .before .before .before .before .before .before .loop .place) (Value (c .before .value .given .0 .0) (c .before .value .given .0 .1 .0))
 found c =
     let d = c .before .before .before in
     let l = d .before .before .before .before .before in
-    subst (FoundAt readDelta (now (l .before .before .before .args .bytes)) (l .loop .place)) (c .before .value .given .1) (d .read-delta .ensures)
+    subst (FoundAt readDelta (now (l .before .before .before .before .args .bytes)) (l .loop .place)) (c .before .value .given .1) (d .next-delta .ensures)
 
 sub-if1 : tie.Need-sub-if1 Inv-loop μ-loop
 sub-if1 c = omega (arith, gave (c .before .before .before .before) .1)
@@ -120,7 +124,7 @@ loop-again c =
     let f = found (c .before) in
     let k = c .before .before .before .before .before in
     let l = k .before .before .before .before in
-    let a = l .before .before .before .args in
+    let a = l .before .before .before .before .args in
     let v : ℕ = k .before .id .given .0 .0 - l .loop .c .from in
     let behind : ℕ = c .before .before .value .given .0 .1 .0 in
     let bits : List Bool = bitsOf (now (a .bytes)) in (
@@ -136,12 +140,13 @@ same-gaps-spec =
     (tie.spec
     Inv-loop
     μ-loop
+    window-at-requires
     loop-holds
     next-coded-requires
     enum-known-id
     enum-told
     returns
-    read-delta-requires
+    next-delta-requires
     enum-known-value
     enum-told-2
     returns-2
