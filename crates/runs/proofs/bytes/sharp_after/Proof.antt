@@ -1,0 +1,31 @@
+-- `runs::bytes::sharp_after` meets its contract.
+use mathlib.Core.Path.{sym, ap, _∙_}
+use native.Mathlib.Omega.{arith}
+use denote.Ref.{now}
+use lib.ListN.{drop, length-drop}
+use borrow.Author.Needs.{needs}
+use Rattle.runs.specs.Bytes.{sharpIn}
+use Rattle.runs.proofs.Laws.Orders.{taken}
+use Rattle.base.specs.Tests.{_when_else_}
+use Rattle.runs.proofs.Laws.Bytes.{after-short, after-found}
+use Rattle.runs.proofs.bytes.sharp_after.Statement.{statement}
+use Rattle.runs.proofs.bytes.sharp_after.Tie as tie
+
+sub-if1 : tie.Need-sub-if1
+sub-if1 c = search needs
+
+mul-if1 : tie.Need-mul-if1
+mul-if1 c = search needs
+
+returns : tie.Need-returns
+unfolding _when_else_
+returns c = let start = c .before .before in let bs = now (start .args .bytes) in ap (sharpIn (start .args .n)) (sym (after-short (start .args .count) (drop (start .args .len) bs) (omega (arith, c .if1 .taken, length-drop (start .args .len) bs))))
+
+sharp-words-requires : tie.Need-sharp-words-requires
+sharp-words-requires c κs = search needs
+
+returns-2 : tie.Need-returns-2
+returns-2 c = let start = c .before .before .before in let bs = now (start .args .bytes) in c .sharp-words .ensures ∙ ap (sharpIn (start .args .n)) (sym (after-found (start .args .count) (drop (start .args .len) bs) (omega (arith, c .before .if1 .left, length-drop (start .args .len) bs))))
+
+pub sharp-after-spec : {M : Type 1} → statement M
+sharp-after-spec = tie.close (tie.spec sub-if1 mul-if1 returns sharp-words-requires returns-2)
