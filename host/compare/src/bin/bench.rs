@@ -495,6 +495,172 @@ fn dense(table: &mut Table, n: u32, absent: u32) {
     );
 }
 
+/// The proved code alone, in nanoseconds a unit: a whole call, and the same call refused for want of space, which makes every
+/// test and writes nothing.
+fn tests_alone(
+    operation: &str,
+    input: &str,
+    (unit, units): (&str, usize),
+    mut whole: impl FnMut(),
+    mut refused: impl FnMut(),
+) -> String {
+    let (first, second) = shortest(&mut whole, &mut refused);
+    let each = |seconds: f64| seconds * 1e9 / units as f64;
+    let row = format!(
+        "| {operation} | {input} | {unit} | {:.2} | {:.2} |\n",
+        each(first),
+        each(second)
+    );
+    print!("{row}");
+    row
+}
+
+fn short_of_space(code: u32) {
+    assert_eq!(code, 3);
+}
+
+/// The operations that are not as fast as asked for, and what their tests cost.
+fn tests() -> String {
+    let mut text =
+        String::from("| operation | input | ns per | whole | tests |\n|---|---|---|---:|---:|\n");
+    let mut numbers = [0; 2];
+    for (name, n, ids) in [
+        ("sparse", 1_048_576, Random::new(24).set(1_048_576, 1000)),
+        ("dense", 655_360, Random::new(26).set(655_360, 650_360)),
+    ] {
+        let input = format!(
+            "N = {}, {} ids",
+            grouped(n.into()),
+            grouped(ids.len() as u64)
+        );
+        let record = record_of(n, &ids);
+        let (mut out, mut back) = (vec![0; record.len()], vec![0; ids.len()]);
+        let mut second = 0;
+        text += &tests_alone(
+            &format!("write {name}"),
+            &input,
+            ("id", ids.len()),
+            || {
+                accepted(proved::write_record(
+                    n,
+                    black_box(&ids),
+                    &mut out,
+                    &mut numbers[0],
+                ))
+            },
+            || {
+                short_of_space(proved::write_record(
+                    n,
+                    black_box(&ids),
+                    &mut [],
+                    &mut second,
+                ))
+            },
+        );
+        let [given, taken] = &mut numbers;
+        let (mut a, mut b) = (0, 0);
+        text += &tests_alone(
+            &format!("read {name}"),
+            &input,
+            ("id", ids.len()),
+            || {
+                accepted(proved::read_record(
+                    n,
+                    black_box(&record),
+                    &mut back,
+                    given,
+                    taken,
+                ))
+            },
+            || {
+                short_of_space(proved::read_record(
+                    n,
+                    black_box(&record),
+                    &mut [],
+                    &mut a,
+                    &mut b,
+                ))
+            },
+        );
+    }
+    let mut random = Random::new(21);
+    let sets: Vec<Vec<u32>> = (0..1000)
+        .map(|_| {
+            let len = 1 + random.below(64) as u32;
+            random.set(64, len)
+        })
+        .collect();
+    let records: Vec<Vec<u8>> = sets.iter().map(|ids| record_of(64, ids)).collect();
+    let (mut out, mut back) = (vec![0; 64], vec![0; 64]);
+    text += &tests_alone(
+        "write records",
+        "1,000 sets of N = 64",
+        ("set", 1000),
+        || {
+            for ids in &sets {
+                accepted(proved::write_record(64, ids, &mut out, &mut 0));
+            }
+        },
+        || {
+            for ids in &sets {
+                short_of_space(proved::write_record(64, ids, &mut [], &mut 0));
+            }
+        },
+    );
+    text += &tests_alone(
+        "read records",
+        "1,000 sets of N = 64",
+        ("set", 1000),
+        || {
+            for record in &records {
+                accepted(proved::read_record(64, record, &mut back, &mut 0, &mut 0));
+            }
+        },
+        || {
+            for record in &records {
+                short_of_space(proved::read_record(64, record, &mut [], &mut 0, &mut 0));
+            }
+        },
+    );
+    let runs = even(100_000, 1_000_000);
+    let one = pack(0, 1 << 39);
+    for (name, reverse) in [("append", false), ("append, reversed", true)] {
+        let (mut out, mut short) = (vec![0; 100_001], vec![0; 1]);
+        out[0] = one;
+        short[0] = one;
+        text += &tests_alone(
+            name,
+            "100,000 runs, n = 1,000,000",
+            ("run", 100_000),
+            || {
+                accepted(proved::append_runs(
+                    &mut out,
+                    1,
+                    1,
+                    black_box(&runs),
+                    1_000_000,
+                    reverse,
+                    &mut 0,
+                    &mut 0,
+                ))
+            },
+            || {
+                short_of_space(proved::append_runs(
+                    &mut short,
+                    1,
+                    1,
+                    black_box(&runs),
+                    1_000_000,
+                    reverse,
+                    &mut 0,
+                    &mut 0,
+                ))
+            },
+        );
+    }
+    text
+}
+
 fn processor() -> String {
     let text = std::fs::read_to_string("/proc/cpuinfo").unwrap_or_default();
     let name = text
@@ -583,12 +749,22 @@ fit the processor's caches.
 
 1,000 runs. The reference fills an array over the vertices; here the cost doesn't depend on them.
 
+{}
+## What the tests cost
+
+Where the proved code is slower than the reference, or reads less than twice as fast, the tests are the reason: a refusal
+leaves all lent memory as it was, so a call tests everything before it writes anything, where the reference tests little
+and writes as it goes. \"Tests\" is the same call with no space for its result: it makes every test and is refused (3).
+A sparse set is decoded once to test and once to fill; a set is measured before its length prefix can be written; make
+index reads each prefix twice; a piece is tested for sharpness before it is appended.
+
 {}",
         processor(),
         ROUND_SECONDS * 1e3,
         one.text(),
         growth.text(),
-        vertices.text()
+        vertices.text(),
+        tests()
     );
     let path = concat!(env!("CARGO_MANIFEST_DIR"), "/../../docs/BENCHMARK.md");
     match std::fs::write(path, text) {
