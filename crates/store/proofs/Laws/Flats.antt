@@ -1,0 +1,58 @@
+-- Laws of items one after another: one more, the start of each, and the bytes from a start on.
+use Prim.Native.Nat.{ℕ, zero, suc, _+_, _<_, _≤_}
+use mathlib.Core.Path.{_≡_, refl, sym, ap, _∙_}
+use mathlib.Core.List.{List, [], _∷_, _++_, append-assoc, append-nil}
+use native.Mathlib.Omega.{arith}
+use native.Mathlib.Nat.{add-zero}
+use lib.ListN.{length, getD, take, drop, length-append}
+use lib.Seq.{drop-append-add}
+use Rattle.codec.specs.Flat.{flat, starts}
+
+module _ {A : Type 0} (enc : A → List ℕ) where
+  pub flat-more : (xs : List A) (x : A) → flat enc (xs ++ (x ∷ [])) ≡ flat enc xs ++ enc x
+  unfolding flat
+  flat-more [] x = append-nil (enc x)
+  flat-more (y ∷ xs) x = rw (flat-more xs x) (sym (append-assoc (enc y) (flat enc xs) (enc x)))
+
+  pub flat-append : (xs ys : List A) → flat enc (xs ++ ys) ≡ flat enc xs ++ flat enc ys
+  unfolding flat
+  flat-append [] ys = refl
+  flat-append (x ∷ xs) ys = rw (flat-append xs ys) (sym (append-assoc (enc x) (flat enc xs) (flat enc ys)))
+
+  pub starts-more : (o : ℕ) (xs : List A) (x : A) → starts enc o (xs ++ (x ∷ [])) ≡ starts enc o xs ++ ((o + length (flat enc xs) + length (enc x)) ∷ [])
+  unfolding flat starts
+  starts-more o [] x = rw add-zero
+  starts-more o (y ∷ xs) x =
+      let e : o + length (enc y) + length (flat enc xs) + length (enc x) ≡ o + length (enc y ++ flat enc xs) + length (enc x) = omega (arith, length-append (enc y) (flat enc xs)) in
+      ap (λ (l : List ℕ). o ∷ l) (starts-more (o + length (enc y)) xs x ∙ ap (λ (n : ℕ). starts enc (o + length (enc y)) xs ++ (n ∷ [])) e)
+
+  pub starts-long : (o : ℕ) (xs : List A) → length (starts enc o xs) ≡ length xs + 1
+  unfolding starts
+  starts-long o [] = refl
+  starts-long o (x ∷ xs) =
+      let h : length (starts enc (o + length (enc x)) xs) ≡ length xs + 1 = starts-long (o + length (enc x)) xs in
+      omega arith
+
+  -- item k begins where the k items before it end
+  pub start-at : (o : ℕ) (xs : List A) (k : ℕ) → k ≤ length xs → getD (starts enc o xs) k 0 ≡ o + length (flat enc (take k xs))
+  unfolding flat starts
+  start-at o [] zero h = sym (add-zero o)
+  start-at o [] (suc k) h = omega arith
+  start-at o (x ∷ xs) zero h = sym (add-zero o)
+  start-at o (x ∷ xs) (suc k) h =
+      let g : k ≤ length xs = omega arith in
+      let e : o + length (enc x) + length (flat enc (take k xs)) ≡ o + length (enc x ++ flat enc (take k xs)) = omega (arith, length-append (enc x) (flat enc (take k xs))) in
+      start-at (o + length (enc x)) xs k g ∙ e
+
+  -- the bytes from the start of item k on: the item, and those behind it
+  pub from-start : (xs : List A) (k : ℕ) (d : A) → k < length xs → drop (length (flat enc (take k xs))) (flat enc xs) ≡ enc (getD xs k d) ++ flat enc (drop (suc k) xs)
+  unfolding flat
+  from-start [] k d h = absurd (none h)
+    where
+      none : k < 0 → ⊥
+      none h = omega arith
+  from-start (x ∷ xs) zero d h = refl
+  from-start (x ∷ xs) (suc k) d h =
+      let g : k < length xs = omega arith in
+      rw (length-append (enc x) (flat enc (take k xs)), drop-append-add (enc x) (flat enc xs) (length (flat enc (take k xs))))
+      (from-start xs k d g)
