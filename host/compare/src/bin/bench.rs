@@ -658,6 +658,38 @@ fn tests() -> String {
             },
         );
     }
+    // The last run descends: refused (6) when all the others were tested.
+    let (mut good, mut bad) = (runs.clone(), runs.clone());
+    bad[99_999] = pack(0, 1);
+    text += &tests_alone(
+        "reverse in place",
+        "100,000 runs, n = 1,000,000",
+        ("run", 100_000),
+        || {
+            accepted(proved::reverse_runs_in_place(
+                black_box(&mut good),
+                1_000_000,
+                &mut 0,
+            ))
+        },
+        || {
+            assert_eq!(
+                proved::reverse_runs_in_place(black_box(&mut bad), 1_000_000, &mut 0),
+                6
+            )
+        },
+    );
+    // The last payload is cut: refused (4) when all the others were tested.
+    let file: Vec<u8> = records.iter().flatten().copied().collect();
+    let (cut, mut entries) = (&file[..file.len() - 1], vec![0; 1001]);
+    let mut untouched = entries.clone();
+    text += &tests_alone(
+        "make index",
+        "1,000 records",
+        ("record", 1000),
+        || accepted(proved::make_index(black_box(&file), 1000, &mut entries)),
+        || assert_eq!(proved::make_index(black_box(cut), 1000, &mut untouched), 4),
+    );
     text
 }
 
@@ -754,7 +786,8 @@ fit the processor's caches.
 
 Where the proved code is slower than the reference, or reads less than twice as fast, the tests are the reason: a refusal
 leaves all lent memory as it was, so a call tests everything before it writes anything, where the reference tests little
-and writes as it goes. \"Tests\" is the same call with no space for its result: it makes every test and is refused (3).
+and writes as it goes. \"Tests\" is the same call with no space for its result: it makes every test and is refused (3); reverse in place and make
+index, which test space first or not at all, are refused at their last run (6) or record (4) instead.
 A sparse set is decoded once to test and once to fill; a set is measured before its length prefix can be written; make
 index reads each prefix twice; a piece is tested for sharpness before it is appended.
 
