@@ -1,0 +1,191 @@
+// The words of each command as its arguments.
+use shell::fields;
+use shell::fields::Field;
+use shell::lists;
+use shell::lists::Item;
+use shell::lists::Listed;
+use shell::reasons::Fault;
+use store::state::Way;
+
+// A number, and how many ids stand behind it.
+pub enum Numbered {
+    Done { number: u32, count: usize },
+    Wrong(Fault),
+}
+
+// A number, a vertex count, a direction, and how many runs stand behind them.
+pub enum Piece {
+    Done {
+        number: u32,
+        n: u32,
+        reversed: bool,
+        count: usize,
+    },
+    Wrong(Fault),
+}
+
+// A number and a way to close.
+pub enum Ended {
+    Done { number: u32, way: Way },
+    Wrong(Fault),
+}
+
+// One of two words, and where it ends.
+pub enum Choice {
+    First(usize),
+    Second(usize),
+    Wrong(Fault),
+}
+
+pub(crate) fn number(xs: &[u32], i: usize) -> u32 {
+    if i < xs.len() {
+        return xs[i];
+    }
+    0
+}
+
+pub(crate) fn entry(xs: &[u32], i: usize) -> usize {
+    number(xs, i) as usize
+}
+
+// The third number, or all the room there is.
+pub(crate) fn room(xs: &[u32], count: usize) -> usize {
+    if count == 3 {
+        return entry(xs, 2);
+    }
+    xs.len()
+}
+
+// Exactly so many numbers up to the end of the line.
+pub(crate) fn exactly(words: &[u8], from: usize, most: usize, ids: &mut [u32]) -> Listed {
+    match lists::ids_at(words, from, ids) {
+        Listed::Wrong(f) => Listed::Wrong(f),
+        Listed::Done(count) => {
+            if count < most {
+                return Listed::Wrong(Fault::Missing);
+            }
+            if most < count {
+                return Listed::Wrong(Fault::Extra);
+            }
+            Listed::Done(count)
+        }
+    }
+}
+
+fn ids_behind(number: u32, words: &[u8], from: usize, ids: &mut [u32]) -> Numbered {
+    match lists::ids_at(words, from, ids) {
+        Listed::Wrong(f) => Numbered::Wrong(f),
+        Listed::Done(count) => Numbered::Done { number, count },
+    }
+}
+
+// NUMBER ID..
+pub(crate) fn numbered_ids(words: &[u8], from: usize, ids: &mut [u32]) -> Numbered {
+    match lists::id_at(words, from) {
+        Item::Nothing => Numbered::Wrong(Fault::Missing),
+        Item::Wrong(f) => Numbered::Wrong(f),
+        Item::Value { value, next } => ids_behind(lists::narrow(value), words, next, ids),
+    }
+}
+
+fn chosen(word: &[u8], end: usize, first: &[u8], second: &[u8]) -> Choice {
+    if fields::same(word, first) {
+        return Choice::First(end);
+    }
+    if fields::same(word, second) {
+        return Choice::Second(end);
+    }
+    Choice::Wrong(Fault::Way)
+}
+
+// Which of two words stands next.
+fn choose(words: &[u8], from: usize, first: &[u8], second: &[u8]) -> Choice {
+    match fields::next_field(words, from) {
+        Field::Nothing => Choice::Wrong(Fault::Missing),
+        Field::At { start, end } => chosen(fields::part(words, start, end), end, first, second),
+    }
+}
+
+fn runs_behind(
+    number: u32,
+    n: u32,
+    reversed: bool,
+    words: &[u8],
+    from: usize,
+    piece: &mut [u64],
+) -> Piece {
+    match lists::runs_at(words, from, piece) {
+        Listed::Wrong(f) => Piece::Wrong(f),
+        Listed::Done(count) => Piece::Done {
+            number,
+            n,
+            reversed,
+            count,
+        },
+    }
+}
+
+fn piece_way(number: u32, n: u32, words: &[u8], from: usize, piece: &mut [u64]) -> Piece {
+    match choose(words, from, b"forward", b"reverse") {
+        Choice::Wrong(f) => Piece::Wrong(f),
+        Choice::First(next) => runs_behind(number, n, false, words, next, piece),
+        Choice::Second(next) => runs_behind(number, n, true, words, next, piece),
+    }
+}
+
+fn piece_count(number: u32, words: &[u8], from: usize, piece: &mut [u64]) -> Piece {
+    match lists::id_at(words, from) {
+        Item::Nothing => Piece::Wrong(Fault::Missing),
+        Item::Wrong(f) => Piece::Wrong(f),
+        Item::Value { value, next } => piece_way(number, lists::narrow(value), words, next, piece),
+    }
+}
+
+// NUMBER COUNT forward|reverse OFFSET:COORDINATE..
+pub(crate) fn piece_in(words: &[u8], from: usize, piece: &mut [u64]) -> Piece {
+    match lists::id_at(words, from) {
+        Item::Nothing => Piece::Wrong(Fault::Missing),
+        Item::Wrong(f) => Piece::Wrong(f),
+        Item::Value { value, next } => piece_count(lists::narrow(value), words, next, piece),
+    }
+}
+
+// Nothing but the end of the line.
+fn line_end(number: u32, way: Way, words: &[u8], from: usize) -> Ended {
+    match fields::next_field(words, from) {
+        Field::Nothing => Ended::Done { number, way },
+        Field::At { start: _, end: _ } => Ended::Wrong(Fault::Extra),
+    }
+}
+
+fn pivot_in(number: u32, words: &[u8], from: usize) -> Ended {
+    match lists::id_at(words, from) {
+        Item::Nothing => Ended::Wrong(Fault::Missing),
+        Item::Wrong(f) => Ended::Wrong(f),
+        Item::Value { value, next } => line_end(
+            number,
+            Way::Cycle {
+                pivot: lists::narrow(value),
+            },
+            words,
+            next,
+        ),
+    }
+}
+
+fn way_in(number: u32, words: &[u8], from: usize) -> Ended {
+    match choose(words, from, b"line", b"cycle") {
+        Choice::Wrong(f) => Ended::Wrong(f),
+        Choice::First(next) => line_end(number, Way::Line, words, next),
+        Choice::Second(next) => pivot_in(number, words, next),
+    }
+}
+
+// NUMBER line · NUMBER cycle PIVOT
+pub(crate) fn end_in(words: &[u8], from: usize) -> Ended {
+    match lists::id_at(words, from) {
+        Item::Nothing => Ended::Wrong(Fault::Missing),
+        Item::Wrong(f) => Ended::Wrong(f),
+        Item::Value { value, next } => way_in(lists::narrow(value), words, next),
+    }
+}
