@@ -1,11 +1,12 @@
 -- Ids coded as distances, one at a time: what a cursor has yet to give, and what a reader finds.
 use Prim.Native.Nat.{ℕ, zero, suc, _+_, _-_, _*_, _≤_, _<_}
 use mathlib.Core.Path.{_≡_}
-use mathlib.Core.Bool.{Bool, true, false, not, _&&_}
+use mathlib.Core.Bool.{Bool, true, false, not}
 use mathlib.Core.List.{List, [], _∷_, _++_, map}
-use lib.ListN.{length, drop, getD}
-use lib.Dec.{leb, eqb}
-use Rattle.codec.specs.Bits.{bitsOf}
+use lib.ListN.{length, take, drop, getD}
+use lib.Dec.{eqb}
+use Rattle.base.specs.Parts.{over}
+use Rattle.codec.specs.Bits.{bitsOf, digit}
 use Rattle.codec.specs.Sets.{Within, mapBits, idsOf, absent, gapBits, ReadIds, given, none}
 use Rattle.codec.specs.declared.gaps.Cursor.{Cursor}
 use Rattle.codec.specs.declared.gaps.Next.{Next}
@@ -33,9 +34,10 @@ pub record Ahead (N : ℕ) (ids : List ℕ) (c : Cursor) : Type 0 where
   pub below : c .from ≤ N
   pub left : Within (c .from) N (drop (c .i) ids)
 
--- whether k ids stand from place i on, the last of them k - 1 above `from`
-unfoldable pub goesUp : List ℕ → ℕ → ℕ → ℕ → Bool
-goesUp ids i from k = leb (i + k) (length ids) && eqb (getD ids (i + k - 1) 0) (from + k - 1)
+-- how many of w ids from place i on are as far above `from` as they are behind that place
+unfoldable pub upIn : List ℕ → ℕ → ℕ → ℕ → ℕ
+upIn ids i from zero = 0
+upIn ids i from (suc w) = upIn ids i from w + digit (eqb (getD ids (i + w) 0) (from + w))
 
 -- the k ids from place i on go up by one from `from`
 pub record Skipped (N : ℕ) (ids : List ℕ) (i from k : ℕ) : Type 0 where
@@ -73,6 +75,16 @@ Accepted r = (xs : List ℕ) × (rest : List Bool) × (r ≡ given xs rest)
 abbrev pub IdsAt : (List Bool → ReadIds) → List ℕ → ℕ → Checked → Type 0
 IdsAt read bytes at (Good next) = ((xs : List ℕ) × (read (drop at (bitsOf bytes)) ≡ given xs (drop next (bitsOf bytes)))) × (next ≤ 8 * length bytes)
 IdsAt read bytes at Bad = read (drop at (bitsOf bytes)) ≡ none
+
+-- the ids read stand in the front of what was lent for them, as many as fit
+abbrev pub Put : ReadIds → List ℕ → List ℕ → Type 0
+Put (given xs rest) old new = new ≡ over (take (length old) xs) old
+Put none old new = Unit {0}
+
+-- the n ids read stand in the front of a buffer that has space for them
+abbrev pub Kept : ReadIds → ℕ → List ℕ → Type 0
+Kept (given xs rest) n room = n ≤ length room → take n room ≡ xs
+Kept none n room = Unit {0}
 
 -- these bits stand at a place, and the place behind them; or they do not
 abbrev pub BitsAt : List Bool → List ℕ → ℕ → Checked → Type 0

@@ -1,5 +1,5 @@
 -- What is found in a payload.
-use Prim.Native.Nat.{ℕ, _*_, _≤_, _<_}
+use Prim.Native.Nat.{ℕ, _-_, _*_, _≤_, _<_}
 use mathlib.Core.Path.{_≡_}
 use mathlib.Core.Bool.{Bool, true, false, _||_}
 use mathlib.Core.List.{List, [], _∷_}
@@ -7,7 +7,8 @@ use lib.Dec.{leb}
 use lib.ListN.{length, drop}
 use Rattle.codec.specs.Bits.{bitsOf}
 use Rattle.codec.specs.Codes.{got, readDelta}
-use Rattle.codec.specs.Sets.{Regime, empty, sparse, bitmap, dense, Decoded, set, noSet, decodeSet}
+use Rattle.codec.specs.Sets.{Regime, empty, sparse, bitmap, dense, regime, readGaps, Decoded, set, noSet, decodeSet}
+use Rattle.codec.specs.Gaps.{Kept}
 use Rattle.codec.specs.Records.{same}
 use Rattle.codec.specs.declared.sets.Kind.{Kind}
 use Rattle.codec.specs.declared.sets.Kind.the-variants.{Empty, Sparse, Bitmap, Dense}
@@ -41,3 +42,14 @@ PayloadOf N payload (Ids count at) =
     × (readDelta (bitsOf payload) ≡ got count (drop at (bitsOf payload)))
     × (at ≤ 8 * length payload)
 PayloadOf N payload NoIds = decodeSet N payload ≡ noSet
+
+-- the ids that are coded as distances stand in the front of a buffer that has space for them
+abbrev pub KeptBy : Regime → ℕ → ℕ → List Bool → List ℕ → Type 0
+KeptBy empty N n bits room = Unit {0}
+KeptBy sparse N n bits room = Kept (readGaps n 0 N bits) n room
+KeptBy bitmap N n bits room = Unit {0}
+KeptBy dense N n bits room = Kept (readGaps (N - n) 0 N bits) (N - n) room
+
+abbrev pub KeptOf : ℕ → List ℕ → Payload → List ℕ → Type 0
+KeptOf N payload (Ids count at) room = KeptBy (regime N count) N count (drop at (bitsOf payload)) room
+KeptOf N payload NoIds room = Unit {0}

@@ -83,6 +83,24 @@ pub(crate) fn window_at(bytes: &[u8], k: usize) -> u64
     tail_at(bytes, k)
 }
 
+// Where the last eight of `len` bytes begin; 0 where there are fewer.
+pub(crate) fn last_start(len: usize) -> usize
+    ensures { λ r. ⌜ r ≡ len - 8 ⌝ }
+{
+    if len < 8 {
+        return 0;
+    }
+    len - 8
+}
+
+// The last eight bytes, or all where there are fewer, as one number.
+pub(crate) fn last_word(bytes: &[u8]) -> u64
+    requires { ⌜ length (now bytes) < 2 ^ 60 ⌝ }
+    ensures { λ r. ⌜ Window (now (bytes .entry)) (length (now (bytes .entry)) - 8) r ⌝ }
+{
+    window_at(bytes, last_start(bytes.len()))
+}
+
 // The number whose low bits are the `b` bits from `at`.
 pub(crate) fn bits_at(bytes: &[u8], at: usize, b: usize) -> u64
     requires { ⌜ (at + b ≤ 8 * length (now bytes)) × (b ≤ 32) ⌝ }

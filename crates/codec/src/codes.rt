@@ -1,7 +1,7 @@
 // Elias gamma and delta codes.
 use crate::bits::BitWriter;
 ghost use mathlib.Core.Path.{_≡_};
-ghost use Prim.Native.Nat.{_+_, _-_, _*_, _%_, _<_, _≤_, _^_};
+ghost use Prim.Native.Nat.{_+_, _-_, _*_, _/_, _%_, _<_, _≤_, _^_};
 ghost use lib.ListN.{length};
 ghost use Rattle.codec.specs.Bits.{lowBits};
 ghost use Rattle.codec.specs.Codes.{highBit, gamma, delta, readLow, readGamma, readDelta};
@@ -105,70 +105,56 @@ pub(crate) fn delta_of(w: u64) -> Coded
     }
 }
 
-// The value of the delta code at bit place `at`. Where a window of bits does not show one whole, the plain
-// reader decides.
-pub(crate) fn read_delta(bytes: &[u8], at: usize) -> Found
+// The value of the delta code at bit place `at`, among the last eight bytes, which `last` shows. Where
+// it doesn't show a code whole, the plain reader decides.
+pub(crate) fn last_delta(bytes: &[u8], last: u64, at: usize) -> Found
+    requires { ⌜ (length (now bytes) < 2 ^ 60) × (length (now bytes) < at / 8 + 8) ⌝ }
+    requires { ⌜ Window (now bytes) (length (now bytes) - 8) last ⌝ }
+    ensures { λ r. ⌜ FoundAt readDelta (now (bytes .entry)) at r ⌝ }
+{
+    let end = bytes.len() * 8;
+    if end <= at {
+        return delta_at(bytes, at);
+    }
+    let past = at - 8 * crate::bits::last_start(bytes.len());
+    let Coded::Code { value, count } = delta_of(last >> past) else {
+        return delta_at(bytes, at);
+    };
+    if end < at + count {
+        return delta_at(bytes, at);
+    }
+    Found::Value {
+        value,
+        next: at + count,
+    }
+}
+
+// The value of the delta code at bit place `at`: one load where eight bytes are left, none behind.
+pub(crate) fn next_delta(bytes: &[u8], last: u64, at: usize) -> Found
     requires { ⌜ length (now bytes) < 2 ^ 60 ⌝ }
-    ensures { λ r. ⌜ FoundAt readDelta (now (bytes .entry)) at r ⌝ }
-{
-    let end = bytes.len() * 8;
-    if end <= at {
-        return delta_at(bytes, at);
-    }
-    let w = crate::bits::window_at(bytes, at / 8) >> (at % 8);
-    let Coded::Code { value, count } = delta_of(w) else {
-        return delta_at(bytes, at);
-    };
-    if end < at + count {
-        return delta_at(bytes, at);
-    }
-    Found::Value {
-        value,
-        next: at + count,
-    }
-}
-
-// The same where `short` is the window at the first bit: of a payload of fewer than eight bytes it shows all.
-pub(crate) fn short_delta(bytes: &[u8], short: u64, at: usize) -> Found
-    requires { ⌜ (length (now bytes) < 2 ^ 60) × Window (now bytes) 0 short ⌝ }
-    ensures { λ r. ⌜ FoundAt readDelta (now (bytes .entry)) at r ⌝ }
-{
-    if 8 <= bytes.len() {
-        return read_delta(bytes, at);
-    }
-    let end = bytes.len() * 8;
-    if end <= at {
-        return delta_at(bytes, at);
-    }
-    let Coded::Code { value, count } = delta_of(short >> at) else {
-        return delta_at(bytes, at);
-    };
-    if end < at + count {
-        return delta_at(bytes, at);
-    }
-    Found::Value {
-        value,
-        next: at + count,
-    }
-}
-
-// The same, small enough to stand in the readers' loops: one load where eight bytes are left.
-pub(crate) fn next_delta(bytes: &[u8], short: u64, at: usize) -> Found
-    requires { ⌜ (length (now bytes) < 2 ^ 60) × Window (now bytes) 0 short ⌝ }
+    requires { ⌜ Window (now bytes) (length (now bytes) - 8) last ⌝ }
     ensures { λ r. ⌜ FoundAt readDelta (now (bytes .entry)) at r ⌝ }
 {
     let k = at / 8;
     if bytes.len() < k + 8 {
-        return short_delta(bytes, short, at);
+        return last_delta(bytes, last, at);
     }
     let w = crate::bits::word_at(bytes, k) >> (at % 8);
     let Coded::Code { value, count } = delta_of(w) else {
-        return short_delta(bytes, short, at);
+        return delta_at(bytes, at);
     };
     Found::Value {
         value,
         next: at + count,
     }
+}
+
+// The value of the delta code at bit place `at`, where one is read alone.
+pub(crate) fn read_delta(bytes: &[u8], at: usize) -> Found
+    requires { ⌜ length (now bytes) < 2 ^ 60 ⌝ }
+    ensures { λ r. ⌜ FoundAt readDelta (now (bytes .entry)) at r ⌝ }
+{
+    next_delta(bytes, crate::bits::last_word(bytes), at)
 }
 
 // A code as a number and its count of bits, lowest first.

@@ -27,8 +27,8 @@ fn passed_up(prefix: Prefix) -> Step
     }
 }
 
-// The place behind the record that begins at `at`; its payload is skipped.
-fn next_record(bytes: &[u8], at: usize) -> Step
+// The place behind the record that begins at `at`, by its whole prefix; its payload is skipped.
+fn long_record(bytes: &[u8], at: usize) -> Step
     requires { ⌜ at ≤ length (now bytes) ⌝ }
     ensures { λ r. ⌜ SteppedAt (now (bytes .entry)) at r ⌝ }
 {
@@ -42,6 +42,24 @@ fn next_record(bytes: &[u8], at: usize) -> Step
         return Step::Refused(Refusal::Cut);
     }
     Step::Next(start + size)
+}
+
+// The same, small enough to stand in the loops: most prefixes have one byte.
+fn next_record(bytes: &[u8], at: usize) -> Step
+    requires { ⌜ at ≤ length (now bytes) ⌝ }
+    ensures { λ r. ⌜ SteppedAt (now (bytes .entry)) at r ⌝ }
+{
+    if bytes.len() <= at {
+        return Step::Refused(Refusal::Cut);
+    }
+    let size = crate::bits::wide(bytes[at]) as usize;
+    if 128 <= size {
+        return long_record(bytes, at);
+    }
+    if bytes.len() - at <= size {
+        return Step::Refused(Refusal::Cut);
+    }
+    Step::Next(at + 1 + size)
 }
 
 // The answer that a step's refusal makes.

@@ -12,7 +12,7 @@ ghost use Rattle.codec.specs.Bits.{bitsOf, AreBytes};
 ghost use Rattle.codec.specs.Sets.{Within, within, regime, dense, bodyBits, setBits, encodeSet, readMap, readBody, padding, decodeSet};
 ghost use Rattle.codec.specs.Writers.{Ready, Wrote};
 ghost use Rattle.codec.specs.Gaps.{IdsAt, BitsAt};
-ghost use Rattle.codec.specs.Payloads.{falls, regimeOf, PayloadOf, setIds, givesSet};
+ghost use Rattle.codec.specs.Payloads.{falls, regimeOf, PayloadOf, KeptBy, KeptOf, setIds, givesSet};
 
 // Whether an id is not above the one before it. There is no early way out, so that several ids are
 // compared at a time.
@@ -73,9 +73,9 @@ pub(crate) fn set_len(n: u32, ids: &[u32]) -> usize
     let head = crate::codes::delta_len(ids.len() as u32);
     match kind_of(n, ids.len()) {
         Kind::Empty => head,
-        Kind::Sparse => head + crate::gaps::gaps_len(ids, n, false),
+        Kind::Sparse => head + crate::gaps::sparse_len(ids, n),
         Kind::Bitmap => head + n as usize,
-        Kind::Dense => head + crate::gaps::gaps_len(ids, n, true),
+        Kind::Dense => head + crate::gaps::dense_len(ids, n),
     }
 }
 
@@ -87,17 +87,17 @@ pub(crate) fn write_body(out: &mut [u8], w: BitWriter, n: u32, ids: &[u32]) -> B
 {
     match kind_of(n, ids.len()) {
         Kind::Empty => w,
-        Kind::Sparse => crate::gaps::write_gaps(out, w, ids, n, false),
+        Kind::Sparse => crate::gaps::write_sparse(out, w, ids, n),
         Kind::Bitmap => crate::bitmap::write_map(out, w, ids, n),
-        Kind::Dense => crate::gaps::write_gaps(out, w, ids, n, true),
+        Kind::Dense => crate::gaps::write_dense(out, w, ids, n),
     }
 }
 
-// The payload of a set to the front of `out`.
-pub(crate) fn encode_source_set(out: &mut [u8], n: u32, ids: &[u32])
+// The payload of a set to the front of `out`: how many bytes it has.
+pub(crate) fn encode_source_set(out: &mut [u8], n: u32, ids: &[u32]) -> usize
     requires { ⌜ Within 0 n (now ids) × (n ≤ 2 ^ 20) × AreBytes (now out) ⌝ }
     requires { ⌜ length (encodeSet n (now ids)) ≤ length (now out) ⌝ }
-    ensures { λ _. ⌜ now (out .exit) ≡ over (encodeSet n (now (ids .entry))) (now (out .entry)) ⌝ }
+    ensures { λ r. ⌜ (r ≡ length (encodeSet n (now (ids .entry)))) × (now (out .exit) ≡ over (encodeSet n (now (ids .entry))) (now (out .entry))) ⌝ }
 {
     let w = BitWriter {
         at: 0,
@@ -106,7 +106,7 @@ pub(crate) fn encode_source_set(out: &mut [u8], n: u32, ids: &[u32])
     };
     let w = crate::codes::write_delta(out, w, ids.len() as u32);
     let w = write_body(out, w, n, ids);
-    crate::bits::finish(out, w);
+    crate::bits::finish(out, w)
 }
 
 // The number of ids that a payload holds and the bit place behind that number, or that it is the
@@ -116,16 +116,23 @@ pub(crate) enum Payload {
     NoIds,
 }
 
-// The place behind `count` ids that are written from bit place `at` on.
-pub(crate) fn check_body(n: u32, payload: &[u8], count: usize, at: usize) -> Checked
+// The place behind `count` ids that are written from bit place `at` on. Those coded as distances are
+// kept in `room`, if they fit.
+pub(crate) fn check_body(
+    n: u32,
+    payload: &[u8],
+    count: usize,
+    at: usize,
+    room: &mut [u32],
+) -> Checked
     requires { ⌜ (length (now payload) < 2 ^ 60) × (at ≤ 8 * length (now payload)) × (n ≤ 2 ^ 20) ⌝ }
-    ensures { λ r. ⌜ IdsAt (readBody (regime n count) n count) (now (payload .entry)) at r ⌝ }
+    ensures { λ r. ⌜ IdsAt (readBody (regime n count) n count) (now (payload .entry)) at r × KeptBy (regime n count) n count (drop at (bitsOf (now (payload .entry)))) (now (room .exit)) ⌝ }
 {
     match kind_of(n, count) {
         Kind::Empty => Checked::Good { next: at },
-        Kind::Sparse => crate::gaps::check_gaps(payload, at, count, n),
+        Kind::Sparse => crate::gaps::read_gaps(payload, at, count, n, room),
         Kind::Bitmap => check_map(n, payload, count, at),
-        Kind::Dense => check_absent(n, payload, count, at),
+        Kind::Dense => check_absent(n, payload, count, at, room),
     }
 }
 
@@ -144,14 +151,14 @@ fn check_map(n: u32, payload: &[u8], count: usize, at: usize) -> Checked
     }
 }
 
-fn check_absent(n: u32, payload: &[u8], count: usize, at: usize) -> Checked
+fn check_absent(n: u32, payload: &[u8], count: usize, at: usize, room: &mut [u32]) -> Checked
     requires { ⌜ (length (now payload) < 2 ^ 60) × (at ≤ 8 * length (now payload)) × (n ≤ 2 ^ 20) ⌝ }
-    ensures { λ r. ⌜ IdsAt (readBody dense n count) (now (payload .entry)) at r ⌝ }
+    ensures { λ r. ⌜ IdsAt (readBody dense n count) (now (payload .entry)) at r × KeptBy dense n count (drop at (bitsOf (now (payload .entry)))) (now (room .exit)) ⌝ }
 {
     if (n as usize) < count {
         return Checked::Bad;
     }
-    crate::gaps::check_gaps(payload, at, n as usize - count, n)
+    crate::gaps::read_gaps(payload, at, n as usize - count, n, room)
 }
 
 // Whether fewer than eight bits are left from `at` on, all zero.
@@ -166,15 +173,15 @@ pub(crate) fn is_padding(payload: &[u8], at: usize) -> bool
     crate::bits::bits_at(payload, at, left) == 0
 }
 
-// What set a payload is that of.
-pub(crate) fn check_set(n: u32, payload: &[u8]) -> Payload
+// What set a payload is that of. The ids coded as distances are kept in `room`, if they fit.
+pub(crate) fn check_set(n: u32, payload: &[u8], room: &mut [u32]) -> Payload
     requires { ⌜ (length (now payload) < 2 ^ 60) × (n ≤ 2 ^ 20) ⌝ }
-    ensures { λ r. ⌜ PayloadOf n (now (payload .entry)) r ⌝ }
+    ensures { λ r. ⌜ PayloadOf n (now (payload .entry)) r × KeptOf n (now (payload .entry)) r (now (room .exit)) ⌝ }
 {
     let Found::Value { value, next } = crate::reader::first_delta(payload) else {
         return Payload::NoIds;
     };
-    let Checked::Good { next: behind } = check_body(n, payload, value as usize, next) else {
+    let Checked::Good { next: behind } = check_body(n, payload, value as usize, next, room) else {
         return Payload::NoIds;
     };
     if is_padding(payload, behind) {
@@ -186,17 +193,24 @@ pub(crate) fn check_set(n: u32, payload: &[u8]) -> Payload
     Payload::NoIds
 }
 
-// The ids of a payload to the front of `out`.
-pub(crate) fn decode_source_set(n: u32, payload: &[u8], count: usize, at: usize, out: &mut [u32])
+// The ids of a payload to the front of `out`, by `room` where it has them.
+pub(crate) fn decode_source_set(
+    n: u32,
+    payload: &[u8],
+    count: usize,
+    at: usize,
+    room: &[u32],
+    out: &mut [u32],
+)
     requires { ⌜ (length (now payload) < 2 ^ 60) × (n ≤ 2 ^ 20) × (count ≤ length (now out)) ⌝ }
-    requires { ⌜ PayloadOf n (now payload) (Payload.Ids count at) ⌝ }
+    requires { ⌜ PayloadOf n (now payload) (Payload.Ids count at) × KeptOf n (now payload) (Payload.Ids count at) (now room) ⌝ }
     ensures { λ _. ⌜ now (out .exit) ≡ over (setIds (decodeSet n (now (payload .entry)))) (now (out .entry)) ⌝ }
 {
     match kind_of(n, count) {
         Kind::Empty => {}
-        Kind::Sparse => crate::gaps::fill_gaps(payload, at, count, n, out),
+        Kind::Sparse => crate::gaps::fill_gaps(payload, at, count, n, room, out),
         Kind::Bitmap => crate::bitmap::fill_map(payload, at, n, out),
-        Kind::Dense => crate::gaps::fill_left_out(payload, at, n as usize - count, n, out),
+        Kind::Dense => crate::gaps::fill_left_out(payload, at, n as usize - count, n, room, out),
     }
 }
 

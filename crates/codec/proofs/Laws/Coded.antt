@@ -1,19 +1,19 @@
 -- Laws of the cursor over the ids that a set codes as distances.
 use Prim.Native.Nat.{ℕ, zero, suc, _+_, _-_, _≤_, _<_}
 use mathlib.Core.Path.{_≡_, refl, sym, ap, ap₂, _∙_, subst}
-use mathlib.Core.Bool.{Bool, true, false, not, cond}
+use mathlib.Core.Bool.{Bool, true, false, not}
 use mathlib.Core.List.{List, [], _∷_, _++_, map, append-assoc, append-nil}
 use native.Mathlib.Numerals.{add-one}
-use native.Mathlib.Decide.{ℕ-discrete}
+use native.Mathlib.Decide.{ℕ-discrete, decLt}
 use native.Mathlib.Omega.{arith}
 use lib.ListN.{length, drop, getD, length-append, length-drop, drop-of-length-le}
 use lib.Seq.{drop-cons, drop-drop, drop-at, getD-drop}
-use lib.Dec.{leb, eqb}
-use borrow.Author.Tests.{eq-eqb, ne-eqb, leb-true, le-leb, eqb-true}
-use Rattle.base.proofs.Bools.{and-true, and-both, true-false}
+use lib.Dec.{eqb}
+use borrow.Author.Tests.{eq-eqb, ne-eqb}
+use Rattle.codec.specs.Bits.{digit}
 use Rattle.codec.specs.Codes.{delta, got, readDelta}
 use Rattle.codec.specs.Sets.{Within, past, mapBits, idsOf, absent, gapBits}
-use Rattle.codec.specs.Gaps.{codedIds, absentFrom, codedFrom, Ahead, goesUp, Skipped, Gave}
+use Rattle.codec.specs.Gaps.{codedIds, absentFrom, codedFrom, Ahead, upIn, Skipped, Gave}
 use Rattle.codec.specs.declared.gaps.Cursor.{Cursor}
 use Rattle.codec.specs.declared.gaps.Next.the-variants.{Id, End}
 use Rattle.codec.proofs.Laws.Codes.{delta-read}
@@ -29,6 +29,12 @@ within-at : (xs : List ℕ) (from N j : ℕ) → Within from N xs → j < length
 within-at [] from N j w h = absurd (omega arith)
 within-at (x ∷ xs) from N zero w h = omega (arith, w .0)
 within-at (x ∷ xs) from N (suc j) w h = omega (arith, w .0, within-at xs (x + 1) N j (w .2) (omega arith))
+
+-- where one is no further up, the first is `from`
+up-back : (xs : List ℕ) (from N j : ℕ) → Within from N xs → j < length xs → getD xs j 0 ≡ from + j → getD xs 0 0 ≡ from
+up-back [] from N j w h e = absurd (omega arith)
+up-back (x ∷ xs) from N zero w h e = omega arith
+up-back (x ∷ xs) from N (suc j) w h e = omega (arith, w .0, within-at xs (x + 1) N j (w .2) (omega arith))
 
 -- where `from` is not the first, all are above it
 pub within-past : (xs : List ℕ) (from N : ℕ) → Within from N xs → (0 < length xs → getD xs 0 0 ≡ from → ⊥) → Within (from + 1) N xs
@@ -83,13 +89,12 @@ run (suc k) N from (x ∷ xs) w h e =
       same = ap (λ (m : ℕ). absentFrom from (N - from) (m ∷ xs)) s ∙ absent-present N from xs (omega (arith, w .1)) ∙ r .same ∙ ap (λ (m : ℕ). absentFrom m (N - m) (drop (suc k) xs)) n;
     }
 
-module _ (N : ℕ) (ids : List ℕ) (i from : ℕ) where
-  goes-up : (k : ℕ) → goesUp ids i from k ≡ true → (i + k ≤ length ids) × (getD ids (i + k - 1) 0 ≡ from + k - 1)
-  unfolding goesUp
-  goes-up k e =
-      let a = and-true (leb (i + k) (length ids)) (eqb (getD ids (i + k - 1) 0) (from + k - 1)) e in
-      (leb-true (i + k) (length ids) (a .0), eqb-true (getD ids (i + k - 1) 0) (from + k - 1) (a .1))
+-- one id more
+pub up-next : (ids : List ℕ) (i from w : ℕ) → upIn ids i from w + digit (eqb (getD ids (i + w) 0) (from + w)) ≡ upIn ids i from (w + 1)
+unfolding upIn
+up-next ids i from w = rw (add-one w)
 
+module _ (N : ℕ) (ids : List ℕ) (i from : ℕ) where
   pub skipped-none : Ahead N ids (record { i = i; from = from }) → Skipped N ids i from 0
   skipped-none a =
       let p : i ≡ i + 0 = omega arith in
@@ -101,35 +106,101 @@ module _ (N : ℕ) (ids : List ℕ) (i from : ℕ) where
         same = ap (λ (n : ℕ). absentFrom from (N - from) (drop n ids)) p ∙ ap (λ (n : ℕ). absentFrom n (N - n) (drop (i + 0) ids)) q;
       }
 
-  -- more of them
-  pub skipped-more : (k m : ℕ) → Skipped N ids i from k → k < m → goesUp ids i from m ≡ true → Skipped N ids i from m
-  skipped-more k m s h e =
-      let g = goes-up m e in
+  first-at : (j : ℕ) → getD (drop j ids) 0 0 ≡ getD ids j 0
+  first-at j = let z : j + 0 ≡ j = omega arith in getD-drop j ids 0 0 ∙ ap (λ (n : ℕ). getD ids n 0) z
+
+  -- more of them, as far as an id that is as far up as it is behind
+  pub skipped-more : (k m : ℕ) → Skipped N ids i from k → k < m → i + m ≤ length ids → getD ids (i + m - 1) 0 ≡ from + m - 1 → Skipped N ids i from m
+  skipped-more k m s h inside up =
       let xs : List ℕ = drop (i + k) ids in
       let j : ℕ = m - k - 1 in
       let p : i + k + suc j ≡ i + m = omega arith in
       let q : from + k + suc j ≡ from + m = omega arith in
-      let l : j < length xs = simp length-drop (omega (arith, g .0)) in
+      let l : j < length xs = simp length-drop (omega arith) in
       let t : i + k + j ≡ i + m - 1 = omega arith in
-      let x : getD xs j 0 ≡ from + k + j = getD-drop (i + k) ids j 0 ∙ ap (λ (n : ℕ). getD ids n 0) t ∙ omega (arith, g .1) in
+      let x : getD xs j 0 ≡ from + k + j = getD-drop (i + k) ids j 0 ∙ ap (λ (n : ℕ). getD ids n 0) t ∙ omega arith in
       let r = run j N (from + k) xs (s .left) l x in
       let d : drop (suc j) xs ≡ drop (i + m) ids = drop-drop (suc j) (i + k) ids ∙ ap (λ (n : ℕ). drop n ids) p in
       record {
-        inside = g .0;
+        inside = inside;
         below = omega (arith, r .below);
         left = subst (λ (n : ℕ). Within n N (drop (i + m) ids)) q (subst (Within (from + k + suc j) N) d (r .left));
         same = s .same ∙ r .same ∙ ap (λ (l : List ℕ). absentFrom (from + k + suc j) (N - (from + k + suc j)) l) d ∙ ap (λ (n : ℕ). absentFrom n (N - n) (drop (i + m) ids)) q;
       }
 
+  pub skipped-one : (k : ℕ) → Skipped N ids i from k → i + k < length ids → getD ids (i + k) 0 ≡ from + k → Skipped N ids i from (k + 1)
+  skipped-one k s h up = let n : i + (k + 1) - 1 ≡ i + k = omega arith in skipped-more k (k + 1) s (omega arith) (omega arith) (ap (λ (m : ℕ). getD ids m 0) n ∙ up ∙ omega arith)
+
+  pub skipped-eight : (k : ℕ) → Skipped N ids i from k → i + k + 8 ≤ length ids → getD ids (i + k + 7) 0 ≡ from + k + 7 → Skipped N ids i from (k + 8)
+  skipped-eight k s h up = let n : i + (k + 8) - 1 ≡ i + k + 7 = omega arith in skipped-more k (k + 8) s (omega arith) (omega arith) (ap (λ (m : ℕ). getD ids m 0) n ∙ up ∙ omega arith)
+
   -- and no more
-  pub skipped-all : (k m : ℕ) → Skipped N ids i from k → m ≡ k + 1 → goesUp ids i from m ≡ false → Within (from + k + 1) N (drop (i + k) ids)
-  unfolding goesUp
-  skipped-all k m s q e =
-      within-past (drop (i + k) ids) (from + k) N (s .left) (λ h x.
-      let l : i + m ≤ length ids = omega (arith, h, length-drop (i + k) ids) in
-      let t : i + m - 1 ≡ i + k + 0 = omega arith in
-      let y : getD ids (i + m - 1) 0 ≡ from + m - 1 = ap (λ (n : ℕ). getD ids n 0) t ∙ sym (getD-drop (i + k) ids 0 0) ∙ x ∙ omega arith in
-      true-false (sym (and-both (leb (i + m) (length ids)) (eqb (getD ids (i + m - 1) 0) (from + m - 1)) (le-leb (i + m) (length ids) l) (eq-eqb (getD ids (i + m - 1) 0) (from + m - 1) y)) ∙ e))
+  pub skipped-all : (k : ℕ) → Skipped N ids i from k → (i + k < length ids → getD ids (i + k) 0 ≡ from + k → ⊥) → Within (from + k + 1) N (drop (i + k) ids)
+  skipped-all k s other = within-past (drop (i + k) ids) (from + k) N (s .left) (λ h x. other (omega (arith, h, length-drop (i + k) ids)) (sym (first-at (i + k)) ∙ x))
+
+  -- an id behind those skipped is that far up at least
+  pub skipped-high : (k w : ℕ) → Skipped N ids i from k → i + k + w < length ids → from + k + w ≤ getD ids (i + k + w) 0
+  skipped-high k w s h = subst (λ (x : ℕ). from + k + w ≤ x) (getD-drop (i + k) ids w 0) (within-at (drop (i + k) ids) (from + k) N w (s .left) (simp length-drop (omega arith)))
+
+  -- of w ids, those that are as far up as they are behind are the first ones
+  record Counted (k w c : ℕ) : Type 0 where
+    pub few : c ≤ w
+    pub are : Skipped N ids i from (k + c)
+    pub no-more : c < w → getD ids (i + (k + c)) 0 ≡ from + (k + c) → ⊥
+
+  module _ (k w c : ℕ) (inside : i + k + suc w ≤ length ids) (so : Counted k w c) where
+    counted-up : getD ids (i + k + w) 0 ≡ from + k + w → Counted k (suc w) (c + 1)
+    counted-up up =
+        let n : i + (k + c) + (w - c) ≡ i + k + w = omega (arith, so .few) in
+        let far : getD (drop (i + (k + c)) ids) (w - c) 0 ≡ from + (k + c) + (w - c) = getD-drop (i + (k + c)) ids (w - c) 0 ∙ ap (λ (m : ℕ). getD ids m 0) n ∙ up ∙ omega (arith, so .few) in
+        let first : getD ids (i + (k + c)) 0 ≡ from + (k + c) =
+        sym (first-at (i + (k + c))) ∙ up-back (drop (i + (k + c)) ids) (from + (k + c)) N (w - c) (so .are .left) (simp length-drop (omega (arith, so .few))) far
+        in
+        let all : c ≡ w = same first (decLt c w) in
+        let m : i + (k + (c + 1)) - 1 ≡ i + k + w = omega arith in
+        record {
+          few = omega arith;
+          are = skipped-more (k + c) (k + (c + 1)) (so .are) (omega arith) (omega arith) (ap (λ (m : ℕ). getD ids m 0) m ∙ up ∙ omega arith);
+          no-more = λ l x. omega arith;
+        }
+      where
+        same : getD ids (i + (k + c)) 0 ≡ from + (k + c) → Dec (c < w) → c ≡ w
+        same first (yes l) = absurd (so .no-more l first)
+        same first (no l) = omega (arith, so .few)
+
+    counted-else : (getD ids (i + k + w) 0 ≡ from + k + w → ⊥) → Counted k (suc w) (c + 0)
+    counted-else other =
+        let z : c ≡ c + 0 = omega arith in
+        subst (Counted k (suc w)) z (record {
+          few = omega (arith, so .few);
+          are = so .are;
+          no-more = λ l x. last x (decLt c w);
+        })
+      where
+        last : getD ids (i + (k + c)) 0 ≡ from + (k + c) → Dec (c < w) → ⊥
+        last x (yes l) = so .no-more l x
+        last x (no l) =
+            let n : i + k + w ≡ i + (k + c) = omega (arith, so .few) in
+            other (ap (λ (m : ℕ). getD ids m 0) n ∙ x ∙ omega (arith, so .few))
+
+  counted : (k w : ℕ) → Skipped N ids i from k → i + k + w ≤ length ids → Counted k w (upIn ids (i + k) (from + k) w)
+  unfolding upIn
+  counted k zero s h = let z : k ≡ k + 0 = omega arith in record { few = omega arith; are = subst (Skipped N ids i from) z s; no-more = λ l x. omega arith }
+  counted k (suc w) s h = step (counted k w s (omega arith)) (ℕ-discrete (getD ids (i + k + w) 0) (from + k + w))
+    where
+      step : Counted k w (upIn ids (i + k) (from + k) w) → Dec (getD ids (i + k + w) 0 ≡ from + k + w) → Counted k (suc w) (upIn ids (i + k) (from + k) w + digit (eqb (getD ids (i + k + w) 0) (from + k + w)))
+      step d (yes e) = rw (eq-eqb (getD ids (i + k + w) 0) (from + k + w) e) (counted-up k w (upIn ids (i + k) (from + k) w) h d e)
+      step d (no e) = rw (ne-eqb (getD ids (i + k + w) 0) (from + k + w) e) (counted-else k w (upIn ids (i + k) (from + k) w) h d e)
+
+  -- where the last of eight is further up, that many go up, and no more
+  pub counted-all : (k : ℕ) → Skipped N ids i from k → i + k + 8 ≤ length ids → (getD ids (i + k + 7) 0 ≡ from + k + 7 → ⊥) → (c : ℕ) → c ≡ upIn ids (i + k) (from + k) 8
+      → Skipped N ids i from (k + c) × Within (from + (k + c) + 1) N (drop (i + (k + c)) ids)
+  unfolding upIn
+  counted-all k s h other c e =
+      let d = counted k 7 s (omega arith) in
+      let f = counted-else k 7 (upIn ids (i + k) (from + k) 7) h d other in
+      let n : c ≡ upIn ids (i + k) (from + k) 7 + 0 = e ∙ ap (λ (b : Bool). upIn ids (i + k) (from + k) 7 + digit b) (ne-eqb (getD ids (i + k + 7) 0) (from + k + 7) other) in
+      subst (λ (x : ℕ). Skipped N ids i from (k + x) × Within (from + (k + x) + 1) N (drop (i + (k + x)) ids)) (sym n) (f .are, skipped-all (k + (upIn ids (i + k) (from + k) 7 + 0)) (f .are) (λ l x. f .no-more (omega (arith, d .few)) x))
 
 -- ---- the ids yet to give
 

@@ -14,7 +14,7 @@ use Rattle.codec.specs.Bits.{valueOf, bitsOf}
 use Rattle.codec.specs.Codes.{Read, got, end, readDelta}
 use Rattle.codec.specs.Sets.{idsOf, absent, Regime, sparse, bitmap, dense, regime, given, none, andIds, readGaps, readMap, readBody, readSet, padding, set, noSet, padded, decodeSet}
 use Rattle.codec.specs.Gaps.{IdsAt}
-use Rattle.codec.specs.Payloads.{regimeOf, PayloadOf, setIds}
+use Rattle.codec.specs.Payloads.{regimeOf, PayloadOf, KeptBy, setIds}
 use Rattle.codec.specs.declared.gaps.Checked.{Checked}
 use Rattle.codec.specs.declared.gaps.Checked.the-variants.{Good, Bad}
 use Rattle.codec.specs.declared.sets.Kind.{Kind}
@@ -59,6 +59,12 @@ dense-told N len bits xs rest e =
 -- the regime that a kind is
 pub body-at : (N len : ℕ) (bytes : List ℕ) (at : ℕ) (r : Checked) (k x : Kind) → k ≡ x → regimeOf k ≡ regime N len → IdsAt (readBody (regimeOf x) N len) bytes at r → IdsAt (readBody (regime N len) N len) bytes at r
 body-at N len bytes at r k x told is i = subst (λ (g : Regime). IdsAt (readBody g N len) bytes at r) (sym (ap regimeOf told) ∙ is) i
+
+pub kept-at : (N len : ℕ) (bits : List Bool) (room : List ℕ) (k x : Kind) → k ≡ x → regimeOf k ≡ regime N len → KeptBy (regimeOf x) N len bits room → KeptBy (regime N len) N len bits room
+kept-at N len bits room k x told is i = subst (λ (g : Regime). KeptBy g N len bits room) (sym (ap regimeOf told) ∙ is) i
+
+pub kept-told : (N len : ℕ) (bits : List Bool) (room : List ℕ) (k x : Kind) → k ≡ x → regimeOf k ≡ regime N len → KeptBy (regime N len) N len bits room → KeptBy (regimeOf x) N len bits room
+kept-told N len bits room k x told is i = subst (λ (g : Regime). KeptBy g N len bits room) (sym is ∙ ap regimeOf told) i
 
 -- no set has more than N ids
 large-none : (N len : ℕ) (bits : List Bool) → N < len → readBody (regime N len) N len bits ≡ none

@@ -2,15 +2,15 @@
 use Prim.Native.Nat.{ℕ, _+_, _-_, _*_, _/_, _^_, _≤_, _<_}
 use mathlib.Core.Path.{_≡_, refl, sym, ap, ap₂, _∙_, subst}
 use mathlib.Core.Bool.{Bool, true, false}
-use mathlib.Core.List.{List, [], _∷_, _++_, append-nil}
+use mathlib.Core.List.{List, [], _∷_, _++_}
 use native.Mathlib.Omega.{arith}
-use lib.ListN.{length, take, drop, length-append, length-drop, drop-of-length-le}
-use lib.Seq.{take-at, take-all, drop-at, drop-drop, getD-drop}
+use lib.ListN.{length, take, drop, set, length-append, length-drop}
+use lib.Seq.{take-at, drop-at, drop-drop, getD-drop}
 use lib.Dec.{eqb, ltb}
 use borrow.Author.Tests.{ltb-false, eqb-false}
 use Rattle.base.specs.Parts.{over}
 use Rattle.base.proofs.Bools.{or-none}
-use Rattle.base.proofs.Parts.{length-over, over-behind}
+use Rattle.base.proofs.Parts.{length-over, over-behind, tail-is, put-tail}
 use Rattle.codec.specs.Bits.{lowBits, bitsOf, packBits, bytesFor, AreBytes}
 use Rattle.codec.specs.Codes.{delta}
 use Rattle.codec.specs.Prefix.{prefixOf}
@@ -25,6 +25,7 @@ use Rattle.codec.specs.declared.sets.Kind.the-variants.{Empty, Sparse, B
 use Rattle.codec.proofs.Laws.Low.{length-low, length-bits}
 use Rattle.codec.proofs.Laws.Sizes.{set-size, length-pack, length-payload}
 use Rattle.codec.proofs.Laws.Sets.{absent-count}
+use Rattle.codec.proofs.Laws.Varints.{prefix-1}
 
 -- ---- the bits of the body, by kind
 
@@ -68,7 +69,7 @@ ready-front N ids out h = record { few = omega arith; small = omega arith; room 
 
 -- the bits written from the front on, as bytes
 pub encoded : (N r : ℕ) (ids out mid after : List ℕ) (w : BitWriter) → Wrote out mid (record { at = 0; acc = 0; pending = 0 }) w (setBits N ids)
-    → r ≡ length (packBits (streamOf mid w)) → after ≡ packBits (streamOf mid w) ++ drop r mid → after ≡ over (encodeSet N ids) out
+    → r ≡ length (packBits (streamOf mid w)) → after ≡ packBits (streamOf mid w) ++ drop r mid → (r ≡ length (encodeSet N ids)) × (after ≡ over (encodeSet N ids) out)
 unfolding over encodeSet lowBits bitsOf
 encoded N r ids out mid after w a n e =
     let p : packBits (streamOf mid w) ≡ packBits (setBits N ids) = ap packBits (a .stream) in
@@ -78,19 +79,12 @@ encoded N r ids out mid after w a n e =
     let k : drop r mid ≡ drop r out =
     ap (λ (m : ℕ). drop m mid) (sym d) ∙ sym (drop-drop (r - w .at) (w .at) mid) ∙ ap (drop (r - w .at)) (a .kept) ∙ drop-drop (r - w .at) (w .at) out ∙ ap (λ (m : ℕ). drop m out) d
     in
-    e ∙ ap₂ (λ (x y : List ℕ). x ++ y) p (k ∙ ap (λ (m : ℕ). drop m out) q)
+    (q, e ∙ ap₂ (λ (x y : List ℕ). x ++ y) p (k ∙ ap (λ (m : ℕ). drop m out) q))
 
 -- ---- a part up to the end of a buffer, lent and back
 
-module _ (a : ℕ) (xs : List ℕ) where
-  pub tail-is : take (length xs - a) (drop a xs) ≡ drop a xs
-  tail-is = take-all (length xs - a) (drop a xs) (omega (arith, length-drop a xs))
-
-  pub put-tail : (ys : List ℕ) → take a xs ++ (ys ++ drop (length xs - a) (drop a xs)) ≡ take a xs ++ ys
-  put-tail ys = let e : drop (length xs - a) (drop a xs) ≡ [] = drop-of-length-le (drop a xs) {i = length xs - a} (omega (arith, length-drop a xs)) in rw (e, append-nil ys)
-
-  pub bytes-tail : AreBytes xs → AreBytes (take (length xs - a) (drop a xs))
-  bytes-tail h = λ i. rw (tail-is, getD-drop a xs i 0) (h (a + i))
+pub bytes-tail : (a : ℕ) (xs : List ℕ) → AreBytes xs → AreBytes (take (length xs - a) (drop a xs))
+bytes-tail a xs h = λ i. rw (tail-is a xs, getD-drop a xs i 0) (h (a + i))
 
 -- ---- records
 
@@ -118,3 +112,25 @@ module _ (N len at : ℕ) (ids out mid : List ℕ) (long : len ≡ length (encod
       let t : take at mid ≡ p = ap (take at) front ∙ take-at p (drop (length p) out) at (sym behind) in
       let d : drop at mid ≡ drop (length p) out = ap (drop at) front ∙ drop-at p (drop (length p) out) at (sym behind) in
       put-tail at mid part ∙ ap₂ (λ (x y : List ℕ). x ++ y) t (e ∙ ap (over (encodeSet N ids)) (tail-is at mid ∙ d)) ∙ over-behind p (encodeSet N ids) out ∙ ap (λ (n : ℕ). over (prefixOf n ++ encodeSet N ids) out) long
+
+-- there is a first byte, also when what is behind it was lent
+pub short-room : (out part : List ℕ) → 0 < length out → 0 < length (take 1 out ++ (part ++ drop (length out - 1) (drop 1 out)))
+short-room [] part h = absurd (omega arith)
+short-room (x ∷ xs) part h = omega arith
+
+-- a payload behind its length, which takes one byte
+module _ (N len : ℕ) (ids : List ℕ) (long : len ≡ length (encodeSet N ids)) (short : len < 128) where
+  short-record : (len ∷ []) ++ encodeSet N ids ≡ recordOf N ids
+  unfolding recordOf
+  short-record = ap (λ (p : List ℕ). p ++ encodeSet N ids) (sym (prefix-1 len short) ∙ ap prefixOf long)
+
+  pub short-length : len + 1 ≡ length (recordOf N ids)
+  short-length = omega (arith, long, ap length short-record)
+
+  pub short-put : (out part : List ℕ) → 0 < length out → part ≡ over (encodeSet N ids) (take (length out - 1) (drop 1 out)) → set (take 1 out ++ (part ++ drop (length out - 1) (drop 1 out))) 0 len ≡ over (recordOf N ids) out
+  short-put [] part h e = absurd (omega arith)
+  short-put (x ∷ xs) part h e =
+      ap (λ (l : List ℕ). set l 0 len) (put-tail 1 (x ∷ xs) part)
+      ∙ ap (λ (l : List ℕ). len ∷ l) (e ∙ ap (over (encodeSet N ids)) (tail-is 1 (x ∷ xs)))
+      ∙ over-behind (len ∷ []) (encodeSet N ids) (x ∷ xs)
+      ∙ ap (λ (r : List ℕ). over r (x ∷ xs)) short-record

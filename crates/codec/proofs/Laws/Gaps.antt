@@ -4,12 +4,14 @@ use mathlib.Core.Path.{_≡_, refl, sym, ap, ap₂, _∙_, subst}
 use mathlib.Core.Bool.{Bool, true, false, not, cond}
 use mathlib.Core.List.{List, [], _∷_, _++_, map, append-assoc, append-nil}
 use native.Mathlib.Omega.{arith}
-use lib.ListN.{length}
+use lib.ListN.{length, take}
 use lib.Dec.{ltb, eqb}
 use borrow.Author.Tests.{lt-ltb, le-ltb, ltb-true, eqb-true, eqb-false}
+use Rattle.base.specs.Parts.{over}
 use Rattle.codec.specs.Codes.{Read, got, end, readDelta}
 use Rattle.codec.specs.Sets.{Within, mapBits, idsOf, absent, ReadIds, given, none, thenId, andIds, readGaps}
-use Rattle.codec.specs.Gaps.{after, absentFrom, numbers}
+use Rattle.codec.specs.Gaps.{after, absentFrom, numbers, idsIn, Accepted, Put, Kept}
+use Rattle.codec.proofs.Laws.Filled.{put-all, put-front}
 use Rattle.codec.proofs.Laws.Sets.{gaps-only, and-ids, cond-ids, then-ids}
 
 pub after-nil : (r : ReadIds) → r ≡ after [] r
@@ -58,6 +60,36 @@ pub arrived : (all : ReadIds) (xs : List ℕ) (n i from top : ℕ) (bits : List 
 arrived all xs n i from top bits h so =
     let z : n - i ≡ 0 = omega arith in
     so ∙ ap (λ (k : ℕ). after xs (readGaps k from top bits)) z ∙ ap (after xs) (gaps-done from top bits) ∙ ap (λ (l : List ℕ). given l bits) (append-nil xs)
+
+-- ---- ids that are put in what is lent for them
+
+pub put-refused : (r : ReadIds) (old new : List ℕ) → r ≡ none → Put r old new
+put-refused r old new e = subst (λ (q : ReadIds). Put q old new) (sym e) tt
+
+pub put-given : (r : ReadIds) (xs : List ℕ) (rest : List Bool) (old new : List ℕ) → r ≡ given xs rest → new ≡ over (take (length old) xs) old → Put r old new
+put-given r xs rest old new e p = subst (λ (q : ReadIds). Put q old new) (sym e) p
+
+-- none are read
+pub kept-none : (n top : ℕ) (bits : List Bool) (room : List ℕ) → n ≡ 0 → Kept (readGaps n 0 top bits) n room
+unfolding readGaps
+kept-none n top bits room e = subst (λ (k : ℕ). Kept (readGaps k 0 top bits) k room) (sym e) (λ h. refl)
+
+module _ (n top : ℕ) (bits : List Bool) where
+  pub put-kept : (old new : List ℕ) → Put (readGaps n 0 top bits) old new → Kept (readGaps n 0 top bits) n new
+  put-kept old new = go (readGaps n 0 top bits) refl
+    where
+      go : (r : ReadIds) → readGaps n 0 top bits ≡ r → Put r old new → Kept r n new
+      go (given xs rest) e p = λ h. ap (take n) p ∙ put-front xs old n (gaps-only n 0 top bits xs rest e .count) (subst (λ (l : List ℕ). n ≤ length l) p h)
+      go none e p = tt
+
+  module _ (a : Accepted (readGaps n 0 top bits)) where
+    pub kept-ids : (room : List ℕ) → Kept (readGaps n 0 top bits) n room → n ≤ length room → take n room ≡ idsIn (readGaps n 0 top bits)
+    kept-ids room k h = subst (λ (q : ReadIds). Kept q n room) (a .2) k h ∙ ap idsIn (sym (a .2))
+
+    pub put-ids : (old new : List ℕ) → Put (readGaps n 0 top bits) old new → n ≤ length old → new ≡ over (idsIn (readGaps n 0 top bits)) old
+    put-ids old new p h =
+        let count : length (a .0) ≡ n = gaps-only n 0 top bits (a .0) (a .1) (a .2) .count in
+        subst (λ (q : ReadIds). Put q old new) (a .2) p ∙ put-all (a .0) old (omega arith) ∙ ap (λ (r : ReadIds). over (idsIn r) old) (sym (a .2))
 
 -- ---- ids that are known to be there
 

@@ -5,8 +5,8 @@ use mathlib.Core.Bool.{Bool}
 use mathlib.Core.List.{List, [], _∷_, _++_, append-assoc}
 use native.Mathlib.Numerals.{add-one}
 use native.Mathlib.Omega.{arith}
-use lib.ListN.{length, take, drop, set, length-append, length-drop, length-set}
-use lib.Seq.{drop-drop, drop-set-lt, take-suc-set, take-all, set-split, length-take-le}
+use lib.ListN.{length, take, drop, getD, set, length-append, length-drop, length-set, drop-of-length-le}
+use lib.Seq.{drop-cons, drop-drop, drop-set-lt, take-suc-set, take-all, set-split, length-take-le}
 use lib.Dec.{ltb}
 use borrow.Author.Tests.{lt-ltb, le-ltb, le-leb, lt-leb}
 use Rattle.base.specs.Answers.{Answer, refused, done, numberOf, ofMade}
@@ -16,7 +16,7 @@ use Rattle.base.specs.declared.Refusal.the-variants as refusal
 use Rattle.base.specs.declared.Made.{Made}
 use Rattle.base.specs.declared.Made.the-variants as made
 use Rattle.base.proofs.Tests.{when-yes, when-no}
-use Rattle.codec.specs.Prefix.{ReadLeb, whole, cut, bad, readPrefix, prefixIn}
+use Rattle.codec.specs.Prefix.{ReadLeb, whole, cut, bad, readLeb, readPrefix, prefixIn}
 use Rattle.codec.specs.declared.prefix.Prefix.{Prefix}
 use Rattle.codec.specs.declared.prefix.Prefix.the-variants.{Whole, Refused}
 use Rattle.codec.specs.Index.{Indexed, entries, stopped, andEntry, behind, indexFrom, indexOf, indexBy, makeIndex}
@@ -36,6 +36,20 @@ pub part-says : (bytes : List ℕ) (at : ℕ) {p q : Prefix}
 part-says bytes at e f =
     let part : take (length bytes - at) (drop at bytes) ≡ drop at bytes = take-all (length bytes - at) (drop at bytes) (omega (arith, length-drop at bytes)) in
     ap (λ (l : List ℕ). prefixIn (length l) (readPrefix l)) (sym part) ∙ sym e ∙ f
+
+-- no byte is a prefix cut short, and a byte below 128 is a whole one
+pub says-none : (bytes : List ℕ) (at : ℕ) → length bytes ≤ at → Says bytes at (Refused refusal.Cut)
+unfolding readPrefix readLeb
+says-none bytes at h = rw (drop-of-length-le bytes {i = at} h)
+
+one-byte : (b : ℕ) (rest : List ℕ) → b < 128 → prefixIn (length (b ∷ rest)) (readPrefix (b ∷ rest)) ≡ Whole b 1
+unfolding readPrefix readLeb
+one-byte b rest h =
+    let n : length (b ∷ rest) - length rest ≡ 1 = omega arith in
+    rw (lt-ltb b 128 h, lt-ltb b (2 ^ 32) (omega arith), n)
+
+pub says-byte : (bytes : List ℕ) (at : ℕ) → at < length bytes → getD bytes at 0 < 128 → Says bytes at (Whole (getD bytes at 0) 1)
+says-byte bytes at h b = rw (drop-cons bytes at 0 h) (one-byte (getD bytes at 0) (drop (suc at) bytes) b)
 
 module _ (bytes : List ℕ) (at : ℕ) (inside : at ≤ length bytes) where
   pub step-up : (x : Refusal) → Says bytes at (Refused x) → SteppedAt bytes at (step.Refused x)

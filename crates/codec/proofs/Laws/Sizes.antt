@@ -59,3 +59,6 @@ length-payload N xs = length-pack (bytesFor (length (setBits N xs))) (setBits N 
 
 pub payload-size : (N : ℕ) (xs : List ℕ) → 1 ≤ N → N ≤ 2 ^ 20 → Within 0 N xs → length (encodeSet N xs) ≤ 4 * (N + 1)
 payload-size N xs p h w = omega (arith, set-size N xs h w, length-payload N xs)
+
+pub payload-short : (N : ℕ) (xs : List ℕ) → N < 136 → Within 0 N xs → length (encodeSet N xs) < 128
+payload-short N xs h w = omega (arith, set-size N xs (omega arith) w, length-payload N xs)

@@ -144,11 +144,6 @@ module _ (bits : List Bool) (w n : ℕ) (more : List Bool) (e : bits ++ replicat
   pub window-value : valueOf (take n bits) ≡ w % 2 ^ n
   window-value = ap valueOf window-take ∙ value-low n w
 
-  -- as a code
-  pub window-code : (v : ℕ) → lowBits n w ≡ delta v → readDelta bits ≡ got v (drop n bits)
-  window-code v c =
-      ap readDelta (sym (take-append-drop n bits) ∙ ap (λ (l : List Bool). l ++ drop n bits) (window-take ∙ c)) ∙ delta-read v (drop n bits)
-
 -- fewer than eight bytes, with zeros behind them
 pub tail-window : (bits : List Bool) (n r : ℕ) → bits ≡ lowBits n r → r < 2 ^ n → n ≤ 64 → (tail : List Bool) × (bits ++ replicate 64 false ≡ lowBits 64 r ++ tail)
 tail-window bits n r e small h =
@@ -163,29 +158,25 @@ tail-window bits n r e small h =
 pub word-window : (bits : List Bool) (r : ℕ) (rest : List Bool) → bits ≡ lowBits 64 r ++ rest → (tail : List Bool) × (bits ++ replicate 64 false ≡ lowBits 64 r ++ tail)
 word-window bits r rest e = (_, ap (λ (l : List Bool). l ++ replicate 64 false) e ∙ append-assoc (lowBits 64 r) rest (replicate 64 false))
 
--- a code that a window shows whole is the one that is read
-pub window-found : (xs : List ℕ) (at r : ℕ) → Window xs (at / 8) r → (v n : ℕ) → (lowBits n (r / 2 ^ (at % 8)) ≡ delta v) × (n ≤ 29) → at + n ≤ 8 * length xs → FoundAt readDelta xs at (Value v (at + n))
-window-found xs at r w v n c h =
-    let shown = window xs at r (w .0) (w .1) (omega arith) in
+-- a code that the window at byte k shows whole is the one that is read
+pub window-found : (xs : List ℕ) (k at r : ℕ) → Window xs k r → (v n : ℕ) → (lowBits n (r / 2 ^ (at - 8 * k)) ≡ delta v) × (n ≤ 29) → 8 * k ≤ at → at + n ≤ 8 * k + 64 → at + n ≤ 8 * length xs → FoundAt readDelta xs at (Value v (at + n))
+window-found xs k at r w v n c low high h =
+    let past : ℕ = at - 8 * k in
+    let here : List Bool = bitsOf (drop k xs) in
     let bits : List Bool = drop at (bitsOf xs) in
+    let rest : ℕ = 64 - (past + n) in
+    let q : 64 ≡ past + (n + rest) = omega arith in
+    let p : at ≡ 8 * k + past = omega arith in
+    let x : ℕ = r / 2 ^ past in
+    let inside : past ≤ length here = rw (length-bits (drop k xs), length-drop k xs) (omega arith) in
     let are : n ≤ length bits = rw (length-drop at (bitsOf xs), length-bits xs) (omega arith) in
-    (window-code bits (r / 2 ^ (at % 8)) n (shown .0) (shown .1) (omega (arith, c .1)) are v (c .0) ∙ ap (got v) (drop-drop n at (bitsOf xs)), h)
-
--- the same, in the window at the first bit
-pub short-found : (xs : List ℕ) (at r : ℕ) → Window xs 0 r → (v n : ℕ) → (lowBits n (r / 2 ^ at) ≡ delta v) × (n ≤ 29) → at + n ≤ 8 * length xs → at + n ≤ 64 → FoundAt readDelta xs at (Value v (at + n))
-short-found xs at r w v n c h few =
-    let bits : List Bool = bitsOf xs in
-    let rest : ℕ = 64 - (at + n) in
-    let q : 64 ≡ at + (n + rest) = omega arith in
-    let x : ℕ = r / 2 ^ at in
-    let inside : at ≤ length bits = rw (length-bits xs) (omega arith) in
-    let are : n ≤ length (drop at bits) = rw (length-drop at bits, length-bits xs) (omega arith) in
-    let u : lowBits 64 r ++ w .0 ≡ lowBits at r ++ (lowBits (n + rest) x ++ w .0) =
-    ap (λ (m : ℕ). lowBits m r ++ w .0) q ∙ ap (λ (l : List Bool). l ++ w .0) (low-add at (n + rest) r) ∙ append-assoc (lowBits at r) (lowBits (n + rest) x) (w .0)
+    let same : bits ≡ drop past here = ap (λ (i : ℕ). drop i (bitsOf xs)) p ∙ sym (drop-drop past (8 * k) (bitsOf xs)) ∙ ap (drop past) (drop-bits xs k) in
+    let u : lowBits 64 r ++ w .0 ≡ lowBits past r ++ (lowBits (n + rest) x ++ w .0) =
+    ap (λ (m : ℕ). lowBits m r ++ w .0) q ∙ ap (λ (l : List Bool). l ++ w .0) (low-add past (n + rest) r) ∙ append-assoc (lowBits past r) (lowBits (n + rest) x) (w .0)
     in
-    let s : drop at bits ++ replicate 64 false ≡ lowBits n x ++ (lowBits rest (x / 2 ^ n) ++ w .0) =
-    sym (drop-append-le at bits (replicate 64 false) inside) ∙ ap (drop at) (w .1 ∙ u) ∙ drop-at (lowBits at r) (lowBits (n + rest) x ++ w .0) at (length-low at r)
+    let s : bits ++ replicate 64 false ≡ lowBits n x ++ (lowBits rest (x / 2 ^ n) ++ w .0) =
+    ap (λ (l : List Bool). l ++ replicate 64 false) same ∙ sym (drop-append-le past here (replicate 64 false) inside) ∙ ap (drop past) (w .1 ∙ u) ∙ drop-at (lowBits past r) (lowBits (n + rest) x ++ w .0) past (length-low past r)
     ∙ ap (λ (l : List Bool). l ++ w .0) (low-add n rest x) ∙ append-assoc (lowBits n x) (lowBits rest (x / 2 ^ n)) (w .0)
     in
-    let shown : take n (drop at bits) ≡ delta v = sym (take-append-le n (drop at bits) (replicate 64 false) are) ∙ ap (take n) s ∙ take-at (lowBits n x) (lowBits rest (x / 2 ^ n) ++ w .0) n (length-low n x) ∙ c .0 in
-    (ap readDelta (sym (take-append-drop n (drop at bits)) ∙ ap (λ (l : List Bool). l ++ drop n (drop at bits)) shown) ∙ delta-read v (drop n (drop at bits)) ∙ ap (got v) (drop-drop n at bits), h)
+    let shown : take n bits ≡ delta v = sym (take-append-le n bits (replicate 64 false) are) ∙ ap (take n) s ∙ take-at (lowBits n x) (lowBits rest (x / 2 ^ n) ++ w .0) n (length-low n x) ∙ c .0 in
+    (ap readDelta (sym (take-append-drop n bits) ∙ ap (λ (l : List Bool). l ++ drop n bits) shown) ∙ delta-read v (drop n bits) ∙ ap (got v) (drop-drop n at (bitsOf xs)), h)

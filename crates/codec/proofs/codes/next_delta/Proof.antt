@@ -1,5 +1,5 @@
 -- `codec::next_delta` meets its contract.
-use Prim.Native.Nat.{ℕ, _+_, _/_, _%_, _^_}
+use Prim.Native.Nat.{ℕ, _+_, _-_, _*_, _/_, _%_, _^_}
 use mathlib.Core.Path.{_≡_, subst}
 use native.Mathlib.Omega.{arith}
 use denote.Ref.{now}
@@ -13,15 +13,16 @@ use Rattle.codec.proofs.codes.next_delta.Reads as reads
 use Rattle.codec.proofs.codes.next_delta.Lts as lts
 use Rattle.codec.proofs.bits.word_at.Reads as word-at-reads
 use Rattle.codec.proofs.codes.delta_of.Reads as delta-of-reads
-use Rattle.codec.proofs.codes.short_delta.Reads as short-delta-reads
+use Rattle.codec.proofs.codes.delta_at.Reads as delta-at-reads
+use Rattle.codec.proofs.codes.last_delta.Reads as last-delta-reads
 
 -- src/codes.rt:136:22
 add-if1 : tie.Need-add-if1
 add-if1 c = search needs
 
 -- src/codes.rt:137:9
-short-delta-requires : tie.Need-short-delta-requires
-short-delta-requires c κs = search needs
+last-delta-requires : tie.Need-last-delta-requires
+last-delta-requires c κs = search needs
 
 -- src/codes.rt:137:9
 returns : tie.Need-returns
@@ -48,15 +49,20 @@ enum-told : tie.Need-enum-told
 enum-told c = search needs
 
 -- src/codes.rt:141:9
-short-delta-requires-2 : tie.Need-short-delta-requires-2
-short-delta-requires-2 c κs = search needs
+delta-at-requires : tie.Need-delta-at-requires
+delta-at-requires c κs = search needs
 
 -- src/codes.rt:141:9
 returns-2 : tie.Need-returns-2
 returns-2 c = search needs
 
-code : (c : tie.After-known-told) → CodedIn (c .before .before .before .before .word-at .result / 2 ^ (c .before .before .before .before .before .before .before .args .at % 8)) (Code (c .before .value .given .0 .0) (c .before .value .given .0 .1 .0))
-code c = subst (CodedIn (c .before .before .before .before .word-at .result / 2 ^ (c .before .before .before .before .before .before .before .args .at % 8))) (c .before .value .given .1) (c .before .before .before .delta-of .ensures)
+-- what the window shows, its bit place counted from the window's
+code : (c : tie.After-known-told) → CodedIn (c .before .before .before .before .word-at .result / 2 ^ (c .before .before .before .before .before .before .before .args .at - 8 * (c .before .before .before .before .before .before .before .args .at / 8))) (Code (c .before .value .given .0 .0) (c .before .value .given .0 .1 .0))
+code c =
+    let w = c .before .before .before .before in
+    let at : ℕ = w .before .before .before .args .at in
+    let p : at % 8 ≡ at - 8 * (at / 8) = omega arith in
+    subst (λ (i : ℕ). CodedIn (w .word-at .result / 2 ^ i) (Code (c .before .value .given .0 .0) (c .before .value .given .0 .1 .0))) p (subst (CodedIn (w .word-at .result / 2 ^ (at % 8))) (c .before .value .given .1) (c .before .before .before .delta-of .ensures))
 
 add-t9 : tie.Need-add-t9
 add-t9 c = omega (arith, code c .1)
@@ -66,21 +72,21 @@ returns-3 : tie.Need-returns-3
 returns-3 c =
     let w = c .before .before .before .before in
     let start = w .before .before .before in
-    window-found (now (start .args .bytes)) (start .args .at) (w .word-at .result) (word-window _ (w .word-at .result) _ (w .word-at .ensures)) _ _ (code c) (omega (arith, code c .1))
+    window-found (now (start .args .bytes)) (start .args .at / 8) (start .args .at) (w .word-at .result) (word-window _ (w .word-at .result) _ (w .word-at .ensures)) _ _ (code c) (omega arith) (omega (arith, code c .1)) (omega (arith, code c .1))
 
 pub next-delta-spec : {M : Type 1} → statement M
 next-delta-spec =
     tie.close
     (tie.spec
     add-if1
-    short-delta-requires
+    last-delta-requires
     returns
     word-at-requires
     shr-w
     delta-of-requires
     enum-known-value
     enum-told
-    short-delta-requires-2
+    delta-at-requires
     returns-2
     add-t9
     returns-3)

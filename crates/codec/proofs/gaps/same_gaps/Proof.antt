@@ -28,14 +28,14 @@ got-value : {v w : ℕ} {r s : List Bool} → got v r ≡ got w s → v ≡ w
 got-value {v} {w} {r} {s} e = cc
 
 abbrev Inv-loop : tie.InvT-loop
-Inv-loop bytes at ids n dense short c₀ place₀ c place =
+Inv-loop bytes at ids n dense last c₀ place₀ c place =
     (done : List Bool) × Coding dense n ids c done × (drop at (bitsOf bytes) ≡ done ++ drop place (bitsOf bytes)) × (place ≤ 8 * length bytes)
 
 abbrev μ-loop : tie.MeasureT-loop
-μ-loop bytes at ids n dense short c₀ place₀ c place = n - c .from
+μ-loop bytes at ids n dense last c₀ place₀ c place = n - c .from
 
-window-at-requires : tie.Need-window-at-requires Inv-loop μ-loop
-window-at-requires c κs = omega arith
+last-word-requires : tie.Need-last-word-requires Inv-loop μ-loop
+last-word-requires c κs = omega arith
 
 loop-holds : tie.Need-loop-holds Inv-loop μ-loop
 loop-holds c =
@@ -81,7 +81,7 @@ reads-on c rest e =
     coding-read (a .dense) (a .n) (now (a .ids)) (l .loop .c) (l .loop .inv .0) (l .loop .inv .1) (c .before .id .given .0 .0) (c .before .id .given .0 .1 .0) (gave c) _ _ rest (l .loop .inv .2) e
 
 next-delta-requires : tie.Need-next-delta-requires Inv-loop μ-loop
-next-delta-requires c κs = (search needs, c .before .before .before .before .before .window-at .ensures)
+next-delta-requires c κs = (search needs, c .before .before .before .before .before .last-word .ensures)
 
 enum-known-value : tie.Need-enum-known-value Inv-loop μ-loop
 enum-known-value c = search needs
@@ -140,7 +140,7 @@ same-gaps-spec =
     (tie.spec
     Inv-loop
     μ-loop
-    window-at-requires
+    last-word-requires
     loop-holds
     next-coded-requires
     enum-known-id

@@ -1,81 +1,67 @@
--- `index::next_record` meets its contract: the prefix's answer says where the payload starts and how long it is.
-use mathlib.Core.Path.{sym, ap, _∙_, subst}
+-- `index::next_record` meets its contract: a byte below 128 is a whole prefix.
+use Prim.Native.Nat.{ℕ}
+use mathlib.Core.Path.{sym, subst}
 use native.Mathlib.Omega.{arith}
 use denote.Ref.{now}
 use borrow.Author.Needs.{needs}
-use Rattle.codec.specs.Indexes.{SteppedAt, upOf}
 use Rattle.codec.specs.declared.prefix.Prefix.the-variants.{Whole}
-use Rattle.codec.proofs.Laws.Indexing.{Says, part-says, step-up, step-start, step-cut, step-next}
+use Rattle.codec.proofs.Laws.Indexing.{Says, says-none, says-byte, step-up, step-cut, step-next}
 use Rattle.codec.proofs.index.next_record.Statement.{statement}
 use Rattle.codec.proofs.index.next_record.Tie as tie
-
-sub-read-varint-len : tie.Need-sub-read-varint-len
-sub-read-varint-len c = search needs
-
-part-read-varint-len-start : tie.Need-part-read-varint-len-start
-part-read-varint-len-start c = search needs
-
-part-read-varint-len-end : tie.Need-part-read-varint-len-end
-part-read-varint-len-end c = search needs
-
-read-varint-len-requires : tie.Need-read-varint-len-requires
-read-varint-len-requires c κs = search needs
-
-enum-known-prefix : tie.Need-enum-known-prefix
-enum-known-prefix c = search needs
-
-enum-told : tie.Need-enum-told
-enum-told c = search needs
-
-passed-up-requires : tie.Need-passed-up-requires
-passed-up-requires c κs = search needs
-
-said : (c : tie.After-known-told)
-    → Says (now (c .before .before .before .before .before .before .args .bytes)) (c .before .before .before .before .before .before .args .at) (Whole (c .before .prefix .given .0 .0) (c .before .prefix .given .0 .1 .0))
-said c =
-    let start = c .before .before .before .before .before .before in
-    part-says (now (start .args .bytes)) (start .args .at) (c .before .before .before .read-varint-len .ensures) (c .before .prefix .given .1)
+use Rattle.codec.proofs.index.next_record.Reads as reads
+use Rattle.codec.proofs.index.next_record.Lts as lts
+use Rattle.codec.proofs.bits.wide.Reads as wide-reads
+use Rattle.codec.proofs.index.long_record.Reads as long-record-reads
 
 returns : tie.Need-returns
-returns c =
-    let start = c .before .before .before .before .before .before in
-    let told = c .before .enum-told .given in
-    subst (SteppedAt (now (start .args .bytes)) (start .args .at)) (sym (c .passed-up .ensures ∙ ap upOf (told .1)))
-    (step-up _ _ (start .pre) (told .0 .0) (part-says (now (start .args .bytes)) (start .args .at) (c .before .before .before .read-varint-len .ensures) (told .1)))
+returns c = let start = c .before .before in step-up _ _ (start .pre) _ (says-none (now (start .args .bytes)) (start .args .at) (c .if1 .taken))
 
-add-start : tie.Need-add-start
-add-start c = let start = c .before .before .before .before .before .before in omega (arith, step-start _ _ (start .pre) _ _ (said c))
+shared-slice-read-wide : tie.Need-shared-slice-read-wide
+shared-slice-read-wide c = search needs
 
-cast-size : tie.Need-cast-size
-cast-size c = search needs
+wide-requires : tie.Need-wide-requires
+wide-requires c κs = search needs
 
-sub-if1 : tie.Need-sub-if1
-sub-if1 c = let start = c .before .before .before .before .before .before in omega (arith, step-start _ _ (start .pre) _ _ (said c))
+long-record-requires : tie.Need-long-record-requires
+long-record-requires c κs = search needs
 
 returns-2 : tie.Need-returns-2
-returns-2 c = let start = c .before .before .before .before .before .before .before in step-cut _ _ (start .pre) _ _ (said (c .before)) (omega arith)
+returns-2 c = search needs
 
-add-t9 : tie.Need-add-t9
-add-t9 c = let start = c .before .before .before .before .before .before .before in omega (arith, step-start _ _ (start .pre) _ _ (said (c .before)))
+sub-if3 : tie.Need-sub-if3
+sub-if3 c = search needs
+
+-- the byte is the whole prefix
+said : (c : tie.Else2) → Says (now (c .before .before .before .before .before .args .bytes)) (c .before .before .before .before .before .args .at) (Whole (c .before .wide .result) 1)
+said c =
+    let w = c .before in
+    let a = w .before .before .before .before .args in
+    let e = w .wide .ensures .0 in
+    subst (λ (b : ℕ). Says (now (a .bytes)) (a .at) (Whole b 1)) (sym e) (says-byte (now (a .bytes)) (a .at) (omega arith) (omega (arith, e)))
 
 returns-3 : tie.Need-returns-3
-returns-3 c = let start = c .before .before .before .before .before .before .before in step-next _ _ (start .pre) _ _ (said (c .before)) (omega arith)
+returns-3 c = let start = c .before .before .before .before .before .before in step-cut _ _ (start .pre) _ _ (said (c .before)) (omega arith)
+
+add-t4 : tie.Need-add-t4
+add-t4 c = search needs
+
+add-t10 : tie.Need-add-t10
+add-t10 c = search needs
+
+returns-4 : tie.Need-returns-4
+returns-4 c = let start = c .before .before .before .before .before .before in step-next _ _ (start .pre) _ _ (said (c .before)) (omega arith)
 
 pub next-record-spec : {M : Type 1} → statement M
 next-record-spec =
     tie.close
     (tie.spec
-    sub-read-varint-len
-    part-read-varint-len-start
-    part-read-varint-len-end
-    read-varint-len-requires
-    enum-known-prefix
-    enum-told
-    passed-up-requires
     returns
-    add-start
-    cast-size
-    sub-if1
+    shared-slice-read-wide
+    wide-requires
+    long-record-requires
     returns-2
-    add-t9
-    returns-3)
+    sub-if3
+    returns-3
+    add-t4
+    add-t10
+    returns-4)

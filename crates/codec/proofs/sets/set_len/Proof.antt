@@ -13,7 +13,8 @@ use Rattle.codec.proofs.sets.set_len.Tie as tie
 use Rattle.codec.proofs.sets.set_len.Reads as reads
 use Rattle.codec.proofs.sets.set_len.Lts as lts
 use Rattle.codec.proofs.codes.delta_len.Reads as delta-len-reads
-use Rattle.codec.proofs.gaps.gaps_len.Reads as gaps-len-reads
+use Rattle.codec.proofs.gaps.sparse_len.Reads as sparse-len-reads
+use Rattle.codec.proofs.gaps.dense_len.Reads as dense-len-reads
 use Rattle.codec.proofs.sets.kind_of.Reads as kind-of-reads
 
 cast-delta-len : tie.Need-cast-delta-len
@@ -31,8 +32,8 @@ enum-told c = search needs
 enum-told-2 : tie.Need-enum-told-2
 enum-told-2 c = search needs
 
-gaps-len-requires : tie.Need-gaps-len-requires
-gaps-len-requires c κs = search needs
+sparse-len-requires : tie.Need-sparse-len-requires
+sparse-len-requires c κs = search needs
 
 add-result : tie.Need-add-result
 add-result c =
@@ -40,7 +41,7 @@ add-result c =
     let k = t .before .before in
     let start = k .before .before .before in
     let a = start .args in
-    omega (arith, k .before .delta-len .ensures .0, c .gaps-len .ensures, set-short (a .n) (now (a .ids)) _ (body-sparse (a .n) (now (a .ids)) (k .kind-of .result) (k .kind-of .ensures) (t .enum-told2 .given .1)) (start .pre .1) (start .pre .0))
+    omega (arith, k .before .delta-len .ensures .0, c .sparse-len .ensures, set-short (a .n) (now (a .ids)) _ (body-sparse (a .n) (now (a .ids)) (k .kind-of .result) (k .kind-of .ensures) (t .enum-told2 .given .1)) (start .pre .1) (start .pre .0))
 
 enum-told-3 : tie.Need-enum-told-3
 enum-told-3 c = search needs
@@ -51,8 +52,8 @@ add-result-2 c = search needs
 enum-told-4 : tie.Need-enum-told-4
 enum-told-4 c = search needs
 
-gaps-len-requires-2 : tie.Need-gaps-len-requires-2
-gaps-len-requires-2 c κs = search needs
+dense-len-requires : tie.Need-dense-len-requires
+dense-len-requires c κs = search needs
 
 add-result-3 : tie.Need-add-result-3
 add-result-3 c =
@@ -60,7 +61,7 @@ add-result-3 c =
     let k = t .before .before in
     let start = k .before .before .before in
     let a = start .args in
-    omega (arith, k .before .delta-len .ensures .0, c .gaps-len2 .ensures, set-short (a .n) (now (a .ids)) _ (body-dense (a .n) (now (a .ids)) (k .kind-of .result) (k .kind-of .ensures) (t .enum-told4 .given .1)) (start .pre .1) (start .pre .0))
+    omega (arith, k .before .delta-len .ensures .0, c .dense-len .ensures, set-short (a .n) (now (a .ids)) _ (body-dense (a .n) (now (a .ids)) (k .kind-of .result) (k .kind-of .ensures) (t .enum-told4 .given .1)) (start .pre .1) (start .pre .0))
 
 returns : tie.Need-returns
 returns c =
@@ -80,7 +81,7 @@ returns-2 c =
     let start = d .before .before in
     let a = start .args in
     let b = body-sparse (a .n) (now (a .ids)) (k .kind-of .result) (k .kind-of .ensures) (t .enum-told2 .given .1) in
-    (omega (arith, d .delta-len .ensures .0, c .gaps-len .ensures, set-length (a .n) (now (a .ids)) _ b), omega (arith, d .delta-len .ensures .0, c .gaps-len .ensures, set-short (a .n) (now (a .ids)) _ b (start .pre .1) (start .pre .0)))
+    (omega (arith, d .delta-len .ensures .0, c .sparse-len .ensures, set-length (a .n) (now (a .ids)) _ b), omega (arith, d .delta-len .ensures .0, c .sparse-len .ensures, set-short (a .n) (now (a .ids)) _ b (start .pre .1) (start .pre .0)))
 
 returns-3 : tie.Need-returns-3
 returns-3 c =
@@ -100,7 +101,7 @@ returns-4 c =
     let start = d .before .before in
     let a = start .args in
     let b = body-dense (a .n) (now (a .ids)) (k .kind-of .result) (k .kind-of .ensures) (t .enum-told4 .given .1) in
-    (omega (arith, d .delta-len .ensures .0, c .gaps-len2 .ensures, set-length (a .n) (now (a .ids)) _ b), omega (arith, d .delta-len .ensures .0, c .gaps-len2 .ensures, set-short (a .n) (now (a .ids)) _ b (start .pre .1) (start .pre .0)))
+    (omega (arith, d .delta-len .ensures .0, c .dense-len .ensures, set-length (a .n) (now (a .ids)) _ b), omega (arith, d .delta-len .ensures .0, c .dense-len .ensures, set-short (a .n) (now (a .ids)) _ b (start .pre .1) (start .pre .0)))
 
 pub set-len-spec : {M : Type 1} → statement M
 set-len-spec =
@@ -111,12 +112,12 @@ set-len-spec =
     kind-of-requires
     enum-told
     enum-told-2
-    gaps-len-requires
+    sparse-len-requires
     add-result
     enum-told-3
     add-result-2
     enum-told-4
-    gaps-len-requires-2
+    dense-len-requires
     add-result-3
     returns
     returns-2

@@ -14,7 +14,8 @@ use Rattle.codec.proofs.sets.write_body.Tie as tie
 use Rattle.codec.proofs.sets.write_body.Reads as reads
 use Rattle.codec.proofs.sets.write_body.Lts as lts
 use Rattle.codec.proofs.bitmap.write_map.Reads as write-map-reads
-use Rattle.codec.proofs.gaps.write_gaps.Reads as write-gaps-reads
+use Rattle.codec.proofs.gaps.write_sparse.Reads as write-sparse-reads
+use Rattle.codec.proofs.gaps.write_dense.Reads as write-dense-reads
 use Rattle.codec.proofs.sets.kind_of.Reads as kind-of-reads
 
 kind-of-requires : tie.Need-kind-of-requires
@@ -26,8 +27,8 @@ enum-told c = search needs
 enum-told-2 : tie.Need-enum-told-2
 enum-told-2 c = search needs
 
-write-gaps-requires : tie.Need-write-gaps-requires
-write-gaps-requires c κs =
+write-sparse-requires : tie.Need-write-sparse-requires
+write-sparse-requires c κs =
     let t = c .before in
     let k = t .before .before in
     let start = k .before .before .before in
@@ -50,8 +51,8 @@ write-map-requires c κs =
 enum-told-4 : tie.Need-enum-told-4
 enum-told-4 c = search needs
 
-write-gaps-requires-2 : tie.Need-write-gaps-requires-2
-write-gaps-requires-2 c κs =
+write-dense-requires : tie.Need-write-dense-requires
+write-dense-requires c κs =
     let t = c .before in
     let k = t .before .before in
     let start = k .before .before .before in
@@ -72,7 +73,7 @@ same-length c = search needs
 
 returns-2 : tie.Need-returns-2
 returns-2 c =
-    let w = c .before .before .write-gaps in
+    let w = c .before .before .write-sparse in
     let t = c .before .before .before .before in
     let k = t .before .before in
     let a = k .before .before .before .args in
@@ -96,7 +97,7 @@ same-length-3 c = search needs
 
 returns-4 : tie.Need-returns-4
 returns-4 c =
-    let w = c .before .before .write-gaps2 in
+    let w = c .before .before .write-dense in
     let t = c .before .before .before .before in
     let k = t .before .before in
     let a = k .before .before .before .args in
@@ -110,11 +111,11 @@ write-body-spec =
     kind-of-requires
     enum-told
     enum-told-2
-    write-gaps-requires
+    write-sparse-requires
     enum-told-3
     write-map-requires
     enum-told-4
-    write-gaps-requires-2
+    write-dense-requires
     returns
     same-length
     returns-2
