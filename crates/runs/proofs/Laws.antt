@@ -2,6 +2,7 @@
 pub mod Lists
 pub mod Words
 pub mod Orders
+pub mod Falls
 pub mod Colours
 pub mod Reverse
 pub mod Swap
@@ -9,7 +10,9 @@ pub mod Merge
 pub mod Cursor
 pub mod Answers
 pub mod Append
+pub mod Fill
 pub mod Joints
+pub mod Starts
 pub mod Bytes
 pub mod Widths
 pub mod Claims

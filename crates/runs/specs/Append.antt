@@ -2,7 +2,7 @@
 use Prim.Native.Nat.{ℕ, _+_, _-_, _≤_, _<_}
 use mathlib.Core.Bool.{Bool, not, _||_, _&&_}
 use mathlib.Core.List.{List, [], _∷_, _++_, map}
-use lib.ListN.{length, take, drop}
+use lib.ListN.{length, take, drop, getD}
 use lib.Dec.{ltb, eqb}
 use Rattle.base.specs.Tests.{_when_else_}
 use Rattle.base.specs.Answers.{Answer, refused, done, numberOf}
@@ -25,6 +25,10 @@ shift k w = pack (offset w + k) (coordinate w)
 
 unfoldable pub shifted : ℕ → List ℕ → List ℕ
 shifted k ws = map (shift k) ws
+
+-- each run can be moved k vertices further on
+abbrev pub Movable : ℕ → List ℕ → Type 0
+Movable k ws = (i : ℕ) → i < length ws → offset (getD ws i 0) + k < 16777216
 
 -- how many runs are dropped behind an output that ends on coordinate c: the piece's first, where it has the same
 unfoldable pub skip : ℕ → List ℕ → ℕ

@@ -8,3 +8,5 @@ pub mod Rotate
 pub mod Bytes
 -- What the functions inside the crate say of a place in a turned cycle.
 pub mod Cursor
+-- What they say of a list that is being reversed in its own place.
+pub mod Swap

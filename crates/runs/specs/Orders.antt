@@ -1,5 +1,5 @@
 -- Steady and sharp lists for n vertices (section 6).
-use Prim.Native.Nat.{ℕ, _≤_, _<_}
+use Prim.Native.Nat.{ℕ, zero, suc, _+_, _≤_, _<_}
 use mathlib.Core.Path.{_≡_}
 use mathlib.Core.Bool.{Bool, true, false, not, _&&_}
 use mathlib.Core.List.{List, [], _∷_}
@@ -44,6 +44,15 @@ pub record Sharp (n : ℕ) (ws : List ℕ) : Type 0 where
   pub some : 0 < length ws
   pub first : offset (getD ws 0 0) ≡ 0
   pub up : (i : ℕ) → i < length ws → offset (getD ws i 0) < endAt n ws i
+
+-- inside the crate: 1 where the list falls at place p, that is, run p + 1 begins less than `step` vertices behind run p; otherwise 0
+unfoldable pub fall : ℕ → List ℕ → ℕ → ℕ
+fall step ws p = 1 when ltb (offset (getD ws (p + 1) 0)) (offset (getD ws p 0) + step) else 0
+
+-- at how many of the k places from p on
+unfoldable pub falls : ℕ → List ℕ → ℕ → ℕ → ℕ
+falls step ws p zero = 0
+falls step ws p (suc k) = falls step ws p k + fall step ws (p + k)
 
 -- a list that reverse and rotate take
 pub record Taken (n : ℕ) (ws : List ℕ) : Type 0 where

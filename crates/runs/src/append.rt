@@ -67,15 +67,14 @@ fn fill_appended(
     reversed: bool,
     from: usize,
 )
-    requires { ⌜ Taken n (now piece) × (shift + n < 16777216) × (from ≤ length (now piece)) × (used + (length (now piece) - from) ≤ length (now out)) ⌝ }
+    requires { ⌜ Taken n (now piece) × (shift + n < 16777216) × (from ≤ 1) × (from ≤ length (now piece)) × (used + (length (now piece) - from) ≤ length (now out)) ⌝ }
     ensures { λ _. ⌜ now (out .exit) ≡ paste (now (out .entry)) used (shifted shift (drop from (oriented reversed n (now (piece .entry))))) (length (now (piece .entry)) - from) ⌝ }
 {
-    let mut i: usize = 0;
-    while i < piece.len() - from {
-        let w = reverse::run_at(piece, n, reversed, from + i);
-        out[used + i] = words::pack(words::offset(w) + shift, words::coordinate(w));
-        i += 1;
+    if from == 0 {
+        reverse::fill_oriented(piece, n, shift, reversed, &mut out[used..]);
+        return;
     }
+    reverse::fill_rest(piece, n, shift, reversed, &mut out[used..]);
 }
 
 // The piece behind the output, where both are as admitted.

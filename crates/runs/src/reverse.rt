@@ -1,16 +1,19 @@
 // Runs from the other end of the unitig.
 use crate::orders;
+use crate::swap;
 use crate::words;
 use base::Refusal;
 use base::Written;
 ghost use mathlib.Core.Path.{_≡_};
-ghost use Prim.Native.Nat.{_<_, _≤_};
-ghost use lib.ListN.{length, getD};
+ghost use Prim.Native.Nat.{_+_, _<_, _≤_};
+ghost use mathlib.Core.List.{[], _∷_};
+ghost use lib.ListN.{length, drop, getD};
 ghost use Rattle.base.specs.Answers.{ofWritten};
 ghost use Rattle.base.specs.Parts.{over};
 ghost use Rattle.runs.specs.Colours.{endAt, firstCoord};
 ghost use Rattle.runs.specs.Orders.{Taken};
 ghost use Rattle.runs.specs.Reverse.{reverseRuns, oriented, orientInto, reverseInto, reverseInPlace};
+ghost use Rattle.runs.specs.Append.{shifted, Movable};
 
 // Run i of the list, or of the reversed list.
 pub(crate) fn run_at(runs: &[u64], n: u32, reversed: bool, i: usize) -> u64
@@ -49,15 +52,63 @@ pub fn first_coordinate(runs: &[u64], n: u32, reversed: bool) -> u64
     words::coordinate(runs[0])
 }
 
-fn fill_oriented(runs: &[u64], n: u32, reversed: bool, out: &mut [u64])
-    requires { ⌜ Taken n (now runs) × (length (now runs) ≤ length (now out)) ⌝ }
-    ensures { λ _. ⌜ now (out .exit) ≡ over (oriented reversed n (now (runs .entry))) (now (out .entry)) ⌝ }
+// The runs behind the first, `shift` vertices further on, to the front of `out`.
+fn fill_forward(runs: &[u64], shift: u64, out: &mut [u64])
+    requires { ⌜ Movable shift (now runs) × (length (now runs) ≤ length (now out) + 1) ⌝ }
+    ensures { λ _. ⌜ now (out .exit) ≡ over (shifted shift (drop 1 (now (runs .entry)))) (now (out .entry)) ⌝ }
 {
     let mut i: usize = 0;
-    while i < runs.len() {
-        out[i] = run_at(runs, n, reversed, i);
+    while i + 1 < runs.len() {
+        out[i] = runs[i + 1] + shift;
         i += 1;
     }
+}
+
+// The same of the reversed list.
+fn fill_backward(runs: &[u64], n: u32, shift: u32, out: &mut [u64])
+    requires { ⌜ Taken n (now runs) × (shift + n < 16777216) × (length (now runs) ≤ length (now out) + 1) ⌝ }
+    ensures { λ _. ⌜ now (out .exit) ≡ over (shifted shift (drop 1 (reverseRuns n (now (runs .entry))))) (now (out .entry)) ⌝ }
+{
+    let m = runs.len();
+    let top = (n + shift) as u64;
+    let mut i: usize = 0;
+    while i + 1 < m {
+        out[i] = words::turned(runs[m - 2 - i], runs[m - 1 - i], top);
+        i += 1;
+    }
+}
+
+// The runs behind the first of the oriented list, `shift` vertices further on, to the front of `out`.
+pub(crate) fn fill_rest(runs: &[u64], n: u32, shift: u32, reversed: bool, out: &mut [u64])
+    requires { ⌜ Taken n (now runs) × (shift + n < 16777216) × (length (now runs) ≤ length (now out) + 1) ⌝ }
+    ensures { λ _. ⌜ now (out .exit) ≡ over (shifted shift (drop 1 (oriented reversed n (now (runs .entry))))) (now (out .entry)) ⌝ }
+{
+    if reversed {
+        fill_backward(runs, n, shift, out);
+        return;
+    }
+    fill_forward(runs, shift as u64, out);
+}
+
+// A run in the front of `out`.
+fn put_front(out: &mut [u64], w: u64)
+    requires { ⌜ 0 < length (now out) ⌝ }
+    ensures { λ _. ⌜ now (out .exit) ≡ over (w ∷ []) (now (out .entry)) ⌝ }
+{
+    out[0] = w;
+}
+
+// All runs of the oriented list, `shift` vertices further on, to the front of `out`.
+pub(crate) fn fill_oriented(runs: &[u64], n: u32, shift: u32, reversed: bool, out: &mut [u64])
+    requires { ⌜ Taken n (now runs) × (shift + n < 16777216) × (length (now runs) ≤ length (now out)) ⌝ }
+    ensures { λ _. ⌜ now (out .exit) ≡ over (shifted shift (oriented reversed n (now (runs .entry)))) (now (out .entry)) ⌝ }
+{
+    if runs.len() == 0 {
+        return;
+    }
+    let first = words::pack(shift, first_coordinate(runs, n, reversed));
+    put_front(out, first);
+    fill_rest(runs, n, shift, reversed, &mut out[1..]);
 }
 
 // The list, reversed where wished, to the front of `out`.
@@ -73,7 +124,7 @@ pub fn orient_color_runs(runs: &[u64], n: u32, reversed: bool, out: &mut [u64]) 
     if out.len() < runs.len() {
         return Written::Refused(Refusal::Space);
     }
-    fill_oriented(runs, n, reversed, out);
+    fill_oriented(runs, n, 0, reversed, out);
     Written::Done(runs.len())
 }
 
@@ -95,29 +146,6 @@ pub fn reverse_color_runs_in_place(runs: &mut [u64], n: u32) -> Written
         return Written::Refused(Refusal::Runs);
     }
     let m = runs.len();
-    swap_ends(runs, n);
+    swap::swap_ends(runs, n);
     Written::Done(m)
-}
-
-// From both ends to the middle; `tail` is where the run that comes to place i ended.
-fn swap_ends(runs: &mut [u64], n: u32)
-    requires { ⌜ Taken n (now runs) ⌝ }
-    ensures { λ _. ⌜ now (runs .exit) ≡ reverseRuns n (now (runs .entry)) ⌝ }
-{
-    let m = runs.len();
-    let mut tail = n;
-    let mut i: usize = 0;
-    while i + i + 1 < m {
-        let k = m - 1 - i;
-        let a = runs[i];
-        let b = runs[k];
-        let end = words::offset(runs[i + 1]);
-        runs[i] = words::flip(b, n, tail);
-        runs[k] = words::flip(a, n, end);
-        tail = words::offset(b);
-        i += 1;
-    }
-    if i + i < m {
-        runs[i] = words::flip(runs[i], n, tail);
-    }
 }

@@ -17,7 +17,7 @@ use Rattle.base.specs.declared.Refusal.the-variants as refusal
 use Rattle.base.specs.Parts.{over}
 use Rattle.base.proofs.Tests.{when-yes, when-no}
 use Rattle.base.proofs.Bools.{not-no, not-yes}
-use Rattle.base.proofs.Parts.{over-behind}
+use Rattle.base.proofs.Parts.{over-behind, tail-is, put-tail}
 use Rattle.codec.specs.Bits.{AreBytes}
 use Rattle.codec.specs.Flat.{flat}
 use Rattle.codec.specs.Prefix.{prefixOf, ReadLeb, whole, cut, bad, readPrefix, prefixIn, writePrefix}
@@ -29,7 +29,7 @@ use Rattle.runs.specs.Orders.{mostVertices, steady}
 use Rattle.runs.specs.Rotate.{rotateRuns}
 use Rattle.runs.specs.Bytes.{leBytes, leValue, runBytes, words, ReadRuns, found, short, damaged, afterCount, readRuns, sizeOfRuns, writeRuns, givenIn, readInto, sizeOfRotated, writeRotated, sharpIn, sharpBytes, colourIn, upOf, unreadOf}
 use Rattle.runs.specs.declared.bytes.Colored.the-variants.{Refused}
-use Rattle.runs.proofs.Laws.Lists.{Filled, tail-is, put-tail}
+use Rattle.runs.proofs.Laws.Lists.{Filled}
 
 pub length-le : (k w : ℕ) → length (leBytes k w) ≡ k
 unfolding leBytes

@@ -1,13 +1,14 @@
 -- Laws of lists that hold for any runs.
 use Prim.Native.Nat.{ℕ, zero, suc, _+_, _-_, _≤_, _<_}
 use mathlib.Core.Path.{_≡_, refl, sym, ap, ap₂, _∙_}
-use mathlib.Core.List.{List, [], _∷_, _++_, append-nil, reverse, reverse-cons}
+use mathlib.Core.List.{List, [], _∷_, _++_, reverse, reverse-cons}
 use native.Mathlib.Omega.{arith}
 use native.Mathlib.Nat.{add-zero}
 use native.Mathlib.Numerals.{add-one}
-use lib.ListN.{length, take, drop, getD, set, length-set, take-append-drop, drop-of-length-le, replicate, length-append, length-drop, List·getD-append}
+use lib.ListN.{length, take, drop, getD, set, length-set, take-append-drop, replicate, length-append, length-drop, List·getD-append}
 use lib.Seq.{drop-cons, getD-append-add, getD-drop, getD-take, length-take-le, take-suc, take-suc-set, drop-set-lt, drop-drop, take-all}
 use Rattle.base.specs.Parts.{over}
+use Rattle.base.proofs.All.{All, all-append, all-take, all-drop}
 
 -- k equal elements from place a on
 pub split-run : {A : Type 0} (xs : List A) (a k : ℕ) (d z : A) → a + k ≤ length xs → ((v : ℕ) → a ≤ v → v < a + k → getD xs v z ≡ d) → drop a xs ≡ replicate k d ++ drop (a + k) xs
@@ -47,6 +48,9 @@ module _ {A : Type 0} (p : ℕ) (xs : List A) (z : A) (inside : p ≤ length xs)
       let l : length (drop p xs) ≡ length xs - p = length-drop p xs in
       let b : v - (length xs - p) < p = omega arith in
       getD-behind (drop p xs) (take p xs) v z (omega arith) ∙ ap (λ (n : ℕ). getD (take p xs) (v - n) z) l ∙ getD-take p xs (v - (length xs - p)) z b
+
+pub all-turn : {A : Type 0} (P : A → Type 0) (k : ℕ) (xs : List A) → All P xs → All P (drop k xs ++ take k xs)
+all-turn P k xs a = all-append P (drop k xs) (take k xs) (all-drop P k xs a) (all-take P k xs a)
 
 -- i elements of a list put to the front of an output
 pub record Filled {A : Type 0} (xs from out : List A) (i : ℕ) : Type 0 where
@@ -89,13 +93,3 @@ drop-head {A = A} xs i y z ys e = (inside, heads same, ap (λ (k : ℕ). drop k 
       where
         tails : getD xs i z ∷ drop (suc i) xs ≡ y ∷ ys → drop (suc i) xs ≡ ys
         tails q = cc
-
--- ---- a part up to the end of a buffer, lent and back
-
-pub tail-is : (at : ℕ) (xs : List ℕ) → take (length xs - at) (drop at xs) ≡ drop at xs
-tail-is at xs = take-all (length xs - at) (drop at xs) (omega (arith, length-drop at xs))
-
-pub put-tail : (at : ℕ) (xs part : List ℕ) → take at xs ++ (part ++ drop (length xs - at) (drop at xs)) ≡ take at xs ++ part
-put-tail at xs part =
-    let e : drop (length xs - at) (drop at xs) ≡ [] = drop-of-length-le (drop at xs) {i = length xs - at} (omega (arith, length-drop at xs)) in
-    ap (λ (l : List ℕ). take at xs ++ (part ++ l)) e ∙ ap (λ (l : List ℕ). take at xs ++ l) (append-nil part)

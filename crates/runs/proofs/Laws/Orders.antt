@@ -5,10 +5,10 @@ use mathlib.Core.Bool.{Bool, true, false, _&&_}
 use mathlib.Core.List.{List, [], _∷_}
 use native.Mathlib.Omega.{arith}
 use native.Mathlib.Numerals.{add-one}
-use borrow.Author.Tests.{leb-true, ltb-true, eqb-true, le-leb, lt-leb, lt-ltb, le-ltb, eq-eqb, ne-eqb}
+use borrow.Author.Tests.{leb-true, ltb-true, eqb-true, le-leb, lt-ltb, le-ltb, eq-eqb, ne-eqb}
 use lib.ListN.{length, drop, getD, drop-of-length-le}
 use lib.Seq.{drop-cons}
-use lib.Dec.{leb, ltb}
+use lib.Dec.{ltb}
 use Rattle.base.proofs.Bools.{and-true, and-both, false-true}
 use Rattle.runs.specs.Words.{offset}
 use Rattle.runs.specs.Colours.{next, endAt}
@@ -99,6 +99,9 @@ strict-le n ws u i l = le (u i l)
 pub sharp-steady : (n : ℕ) (ws : List ℕ) → Sharp n ws → Steady n ws
 sharp-steady n ws s = record { first = s .first; up = strict-le n ws (s .up) }
 
+pub steady-sharp : (n : ℕ) (ws : List ℕ) → sharp n ws ≡ true → steady n ws ≡ true
+steady-sharp n ws e = yes-steady n ws (sharp-steady n ws (sharp-yes n ws e))
+
 pub taken : (n : ℕ) (ws : List ℕ) → n ≤ mostVertices → steady n ws ≡ true → Taken n ws
 taken n ws h s = record { small = omega arith; list = steady-yes n ws s }
 
@@ -131,6 +134,14 @@ end-le n ws i u = next-le n (drop (suc i) ws) (drop-up n ws (suc i) u)
 pub offset-le : (n : ℕ) (ws : List ℕ) (i : ℕ) → i < length ws → Up n ws → offset (getD ws i 0) ≤ n
 offset-le n ws i h u = let a : offset (getD ws i 0) ≤ endAt n ws i = u i h in let b : endAt n ws i ≤ n = end-le n ws i u in omega arith
 
+-- a list that climbs has no more runs than vertices
+pub strict-few : (n : ℕ) (ws : List ℕ) → StrictUp n ws → next n ws + length ws ≤ n
+strict-few n [] u = omega arith
+strict-few n (w ∷ ws) u =
+    let a : offset w < next n ws = u 0 (omega arith) in
+    let b : next n ws + length ws ≤ n = strict-few n ws (λ i l. u (suc i) (omega arith)) in
+    omega arith
+
 pub starts-zero : (n : ℕ) (ws : List ℕ) → Steady n ws → 0 < length ws → next n ws ≡ 0
 starts-zero n ws s some = begins n ws 0 some ∙ s .first
 
@@ -145,24 +156,6 @@ pub steady-bad : (n : ℕ) (ws : List ℕ) → (length ws ≡ 0 → ⊥) → (of
 unfolding steady
 steady-bad n [] h e = absurd (h refl)
 steady-bad n (w ∷ ws) h e = rw (ne-eqb (offset w) 0 e)
-
-pub steady-in : (n : ℕ) (ws : List ℕ) → (length ws ≡ 0 → ⊥) → offset (getD ws 0 0) ≡ 0 → steady n ws ≡ rises n 0 (drop 1 ws)
-unfolding steady
-steady-in n [] h e = absurd (h refl)
-steady-in n (w ∷ ws) h e = rw (eq-eqb (offset w) 0 e)
-
-pub rising-more : (n at i : ℕ) (ws : List ℕ) → i < length ws → at ≤ offset (getD ws i 0) → rises n at (drop i ws) ≡ rises n (offset (getD ws i 0)) (drop (i + 1) ws)
-unfolding rises
-rising-more n at i ws l h =
-    ap (rises n at) (drop-cons ws i 0 l) ∙ ap (λ (b : Bool). b && rises n (offset (getD ws i 0)) (drop (suc i) ws)) (le-leb at (offset (getD ws i 0)) h) ∙ ap (λ (k : ℕ). rises n (offset (getD ws i 0)) (drop k ws)) (sym (add-one i))
-
-pub rising-bad : (n at i : ℕ) (ws : List ℕ) → i < length ws → offset (getD ws i 0) < at → rises n at (drop i ws) ≡ false
-unfolding rises
-rising-bad n at i ws l h = ap (rises n at) (drop-cons ws i 0 l) ∙ ap (λ (b : Bool). b && rises n (offset (getD ws i 0)) (drop (suc i) ws)) (lt-leb at (offset (getD ws i 0)) h)
-
-pub rising-end : (n at i : ℕ) (ws : List ℕ) → length ws ≤ i → rises n at (drop i ws) ≡ leb at n
-unfolding rises
-rising-end n at i ws l = ap (rises n at) (drop-of-length-le ws {i = i} l)
 
 pub sharp-none : (n : ℕ) (ws : List ℕ) → length ws ≡ 0 → sharp n ws ≡ false
 unfolding sharp

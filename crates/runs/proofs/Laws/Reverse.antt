@@ -107,10 +107,10 @@ reverse-twice n ws small s = ext-getD 0 (reverseRuns n (reverseRuns n ws)) ws (l
 
 -- ---- a list in either direction
 
-oriented-yes : (r : Bool) (n : ℕ) (ws : List ℕ) → r ≡ true → oriented r n ws ≡ reverseRuns n ws
+pub oriented-yes : (r : Bool) (n : ℕ) (ws : List ℕ) → r ≡ true → oriented r n ws ≡ reverseRuns n ws
 oriented-yes r n ws e = rw e
 
-oriented-no : (r : Bool) (n : ℕ) (ws : List ℕ) → r ≡ false → oriented r n ws ≡ ws
+pub oriented-no : (r : Bool) (n : ℕ) (ws : List ℕ) → r ≡ false → oriented r n ws ≡ ws
 oriented-no r n ws e = rw e
 
 pub oriented-long : (r : Bool) (n : ℕ) (ws : List ℕ) → length (oriented r n ws) ≡ length ws

@@ -5,19 +5,20 @@ use mathlib.Core.Bool.{Bool, true, false}
 use mathlib.Core.List.{List, [], _∷_, _++_}
 use native.Mathlib.Omega.{arith}
 use native.Mathlib.Decide.{decLt}
-use lib.ListN.{length, take, drop, getD, replicate, length-drop, length-map, List·getD-append}
+use lib.ListN.{length, drop, getD, replicate, length-drop, length-map, List·getD-append, List·getD-eq-default}
 use lib.Seq.{getD-drop}
 use lib.Dec.{eqb}
+use Rattle.base.proofs.All.{All, all-at, all-append, all-replicate}
 use Rattle.runs.specs.Words.{offset, coordinate, pack, AreWords}
 use Rattle.runs.specs.Colours.{next, endAt, colours, lastCoord}
-use Rattle.runs.specs.Orders.{mostVertices, Sharp, Taken}
+use Rattle.runs.specs.Orders.{mostVertices, sharp, Steady, Sharp, Taken}
 use Rattle.runs.specs.Reverse.{reverseRuns, oriented}
 use Rattle.runs.specs.Append.{shifted, skip, appendix, appendRuns}
 use Rattle.runs.specs.Rotate.{turn, unless, changes, firsts, runsAt, merged, rotateRuns}
-use Rattle.runs.proofs.Laws.Lists.{getD-behind}
-use Rattle.runs.proofs.Laws.Words.{offset-pack, coordinate-pack, coordinate-small, pack-small}
-use Rattle.runs.proofs.Laws.Orders.{end-le, sharp-steady}
-use Rattle.runs.proofs.Laws.Colours.{length-colours}
+use Rattle.runs.proofs.Laws.Lists.{getD-behind, all-turn}
+use Rattle.runs.proofs.Laws.Words.{offset-pack, coordinate-pack, pack-of, coordinate-small, pack-small}
+use Rattle.runs.proofs.Laws.Orders.{end-le, begins, sharp-yes, sharp-steady}
+use Rattle.runs.proofs.Laws.Colours.{length-colours, steady-long, steady-at}
 use Rattle.runs.proofs.Laws.Reverse.{reversed-at, length-reversed, oriented-sharp, oriented-steady}
 use Rattle.runs.proofs.Laws.Append.{shifted-at, length-shifted}
 use Rattle.runs.proofs.Laws.Cursor.{turn-long}
@@ -40,19 +41,12 @@ packed-word o c w p = subst (λ (x : ℕ). x < 2 ^ 64) (sym (p .is)) (pack-small
 narrow-at : (ws : List ℕ) (i : ℕ) → AreWords ws → coordinate (getD ws i 0) < 1099511627776
 narrow-at ws i a = coordinate-small (getD ws i 0) (a i)
 
--- past the end there is 0
-getD-past : (xs : List ℕ) (i : ℕ) → length xs ≤ i → getD xs i 0 ≡ 0
-getD-past [] zero h = refl
-getD-past [] (suc i) h = refl
-getD-past (x ∷ xs) zero h = absurd (omega arith)
-getD-past (x ∷ xs) (suc i) h = getD-past xs i (omega arith)
-
 words-of : (xs : List ℕ) → ((i : ℕ) → i < length xs → getD xs i 0 < 2 ^ 64) → AreWords xs
 words-of xs h i = go (decLt i (length xs))
   where
     go : Dec (i < length xs) → getD xs i 0 < 2 ^ 64
     go (yes l) = h i l
-    go (no l) = subst (λ (x : ℕ). x < 2 ^ 64) (sym (getD-past xs i (omega arith))) (omega arith)
+    go (no l) = subst (λ (x : ℕ). x < 2 ^ 64) (sym (List·getD-eq-default xs 0 {n = i} (omega arith))) (omega arith)
 
 -- ---- reverse
 
@@ -107,42 +101,33 @@ appended-words out a piece b r q h s u v =
 
 -- ---- rotate
 
--- each element is a coordinate of 40 bits
-abbrev Narrow : List ℕ → Type 0
-Narrow [] = Unit {0}
-Narrow (c ∷ cs) = (c < 1099511627776) × Narrow cs
+-- a coordinate of 40 bits
+abbrev pub Narrow : ℕ → Type 0
+Narrow c = c < 1099511627776
 
-narrow-getD : (cs : List ℕ) (i : ℕ) → Narrow cs → getD cs i 0 < 1099511627776
-narrow-getD [] zero a = omega arith
-narrow-getD [] (suc i) a = omega arith
-narrow-getD (c ∷ cs) zero a = a .0
-narrow-getD (c ∷ cs) (suc i) a = narrow-getD cs i (a .1)
-
-narrow-append : (xs ys : List ℕ) → Narrow xs → Narrow ys → Narrow (xs ++ ys)
-narrow-append [] ys a b = b
-narrow-append (x ∷ xs) ys a b = (a .0, narrow-append xs ys (a .1) b)
-
-narrow-same : (k c : ℕ) → c < 1099511627776 → Narrow (replicate k c)
-narrow-same zero c h = tt
-narrow-same (suc k) c h = (h, narrow-same k c h)
-
-narrow-turn : (k : ℕ) (cs : List ℕ) → Narrow cs → Narrow (turn k cs)
-narrow-turn k cs a = narrow-append (drop k cs) (take k cs) (later k cs a) (early k cs a)
-  where
-    later : (k : ℕ) (cs : List ℕ) → Narrow cs → Narrow (drop k cs)
-    later zero cs a = a
-    later (suc k) [] a = a
-    later (suc k) (c ∷ cs) a = later k cs (a .1)
-
-    early : (k : ℕ) (cs : List ℕ) → Narrow cs → Narrow (take k cs)
-    early zero cs a = tt
-    early (suc k) [] a = a
-    early (suc k) (c ∷ cs) a = (a .0, early k cs (a .1))
-
-narrow-colours : (n : ℕ) (ws : List ℕ) → AreWords ws → Narrow (colours n ws)
+narrow-colours : (n : ℕ) (ws : List ℕ) → AreWords ws → All Narrow (colours n ws)
 unfolding colours
 narrow-colours n [] a = tt
-narrow-colours n (w ∷ ws) a = narrow-append (replicate (next n ws - offset w) (coordinate w)) (colours n ws) (narrow-same (next n ws - offset w) (coordinate w) (coordinate-small w (a 0))) (narrow-colours n ws (λ i. a (suc i)))
+narrow-colours n (w ∷ ws) a =
+    all-append Narrow (replicate (next n ws - offset w) (coordinate w)) (colours n ws) (all-replicate Narrow (next n ws - offset w) (coordinate w) (coordinate-small w (a 0))) (narrow-colours n ws (λ i. a (suc i)))
+
+-- a sharp list is one of words where its colours are coordinates of 40 bits
+pub coloured-words : (n : ℕ) (ws : List ℕ) → sharp n ws ≡ true → All Narrow (colours n ws) → AreWords ws
+coloured-words n ws e a = words-of ws word
+  where
+    s : Sharp n ws
+    s = sharp-yes n ws e
+
+    t : Steady n ws
+    t = sharp-steady n ws s
+
+    word : (i : ℕ) → i < length ws → getD ws i 0 < 2 ^ 64
+    word i l =
+        let v : ℕ = offset (getD ws i 0) in
+        let b : next n (drop i ws) ≡ v = begins n ws i l in
+        let c : getD (colours n ws) v 0 ≡ coordinate (getD ws i 0) = steady-at n ws t (s .some) i v l (omega arith) (s .up i l) in
+        let h : v < length (colours n ws) = omega (arith, s .up i l, end-le n ws i (t .up), steady-long n ws t (s .some)) in
+        packed-word v (coordinate (getD ws i 0)) (getD ws i 0) (record { is = sym (pack-of (getD ws i 0)); small = omega arith; narrow = subst Narrow c (all-at Narrow (colours n ws) v 0 h a) })
 
 -- a start is a vertex
 changes-below : (c at : ℕ) (cs : List ℕ) (i : ℕ) → i < length (changes c at cs) → getD (changes c at cs) i 0 < at + length cs
@@ -177,12 +162,12 @@ runs-at cs [] i l = absurd (none l)
 runs-at cs (s ∷ ss) zero l = refl
 runs-at cs (s ∷ ss) (suc i) l = runs-at cs ss i (omega arith)
 
-merged-packed : (cs : List ℕ) (i : ℕ) → length cs ≤ mostVertices → Narrow cs → i < length (merged cs) → Packed (getD (firsts cs) i 0) (getD cs (getD (firsts cs) i 0) 0) (getD (merged cs) i 0)
+merged-packed : (cs : List ℕ) (i : ℕ) → length cs ≤ mostVertices → All Narrow cs → i < length (merged cs) → Packed (getD (firsts cs) i 0) (getD cs (getD (firsts cs) i 0) 0) (getD (merged cs) i 0)
 unfolding merged runsAt
 merged-packed cs i h a l =
     let m : i < length (firsts cs) = subst (λ (x : ℕ). i < x) (length-map (firsts cs) (λ (s : ℕ). pack s (getD cs s 0))) l in
     let b : getD (firsts cs) i 0 < length cs = firsts-below cs i m in
-    record { is = runs-at cs (firsts cs) i m; small = omega arith; narrow = narrow-getD cs (getD (firsts cs) i 0) a }
+    record { is = runs-at cs (firsts cs) i m; small = omega arith; narrow = all-at Narrow cs (getD (firsts cs) i 0) 0 b a }
 
 -- run i of the turned list begins at the i-th of the turned colours' starts and has the colour there
 pub rotated-packed : (n pivot : ℕ) (r : Bool) (ws : List ℕ) (i : ℕ) → Taken n ws → AreWords ws → i < length (rotateRuns n pivot r ws)
@@ -192,7 +177,7 @@ rotated-packed n pivot r ws i t a l =
     let cs : List ℕ = colours n (oriented r n ws) in
     let q : ℕ = pivot % n in
     let k : length (turn q cs) ≤ mostVertices = omega (arith, turn-long q cs, length-colours n (oriented r n ws) (oriented-steady r n ws (t .small) (t .list) .up), t .small) in
-    merged-packed (turn q cs) i k (narrow-turn q cs (narrow-colours n (oriented r n ws) (oriented-words r n ws (omega (arith, t .small)) a))) l
+    merged-packed (turn q cs) i k (all-turn Narrow q cs (narrow-colours n (oriented r n ws) (oriented-words r n ws (omega (arith, t .small)) a))) l
 
 pub rotated-words : (n pivot : ℕ) (r : Bool) (ws : List ℕ) → Taken n ws → AreWords ws → AreWords (rotateRuns n pivot r ws)
 rotated-words n pivot r ws t a = words-of (rotateRuns n pivot r ws) (λ i l. packed-word _ _ _ (rotated-packed n pivot r ws i t a l))

@@ -56,7 +56,7 @@ fill-appended-requires c κs =
     let r = start .args .reversed in
     let q = c .before .before .skip-of in
     let le : q .result ≤ 1 = subst (λ (x : ℕ). x ≤ 1) (sym (q .ensures)) (skip-le (lastCoord (take (start .args .used) out)) (oriented r n ps)) in
-    (start .pre .taken, omega (arith, start .pre .sum, start .pre .left, start .pre .right), omega (arith, start .pre .first), c .before .if1 .left)
+    (start .pre .taken, omega (arith, start .pre .sum, start .pre .left, start .pre .right), le, omega (arith, start .pre .first), c .before .if1 .left)
 
 sub-t18 : tie.Need-sub-t18
 sub-t18 c = search needs

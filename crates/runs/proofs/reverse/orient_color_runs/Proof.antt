@@ -1,15 +1,19 @@
 -- `runs::reverse::orient_color_runs` meets its contract.
-use mathlib.Core.Path.{_≡_, sym, _∙_}
+use Prim.Native.Nat.{ℕ}
+use mathlib.Core.Path.{_≡_, sym, ap, _∙_}
 use mathlib.Core.Bool.{true}
+use mathlib.Core.List.{List}
 use native.Mathlib.Omega.{arith}
 use denote.Ref.{now}
 use lib.ListN.{length}
 use borrow.Author.Needs.{needs}
 use borrow.Author.Tests.{not-true, not-false}
+use Rattle.base.specs.Parts.{over}
 use Rattle.runs.specs.Orders.{steady}
 use Rattle.runs.specs.Reverse.{oriented}
 use Rattle.runs.proofs.Laws.Orders.{taken}
 use Rattle.runs.proofs.Laws.Reverse.{oriented-long}
+use Rattle.runs.proofs.Laws.Fill.{shifted-none}
 use Rattle.runs.proofs.Laws.Answers.{list-7, list-6, list-3, list-done}
 use Rattle.runs.proofs.reverse.orient_color_runs.Statement.{statement}
 use Rattle.runs.proofs.reverse.orient_color_runs.Tie as tie
@@ -37,7 +41,7 @@ fill-oriented-requires c κs =
     let n = start .args .n in
     let ws = now (start .args .runs) in
     let good : steady n ws ≡ true = sym (c .before .before .before .is-steady .ensures) ∙ not-false _ (c .before .before .if2 .left) in
-    (taken n ws (c .before .before .before .before .if1 .left) good, c .before .if3 .left)
+    (taken n ws (c .before .before .before .before .if1 .left) good, omega (arith, c .before .before .before .before .if1 .left), c .before .if3 .left)
 
 same-length : tie.Need-same-length
 same-length c = search needs
@@ -48,7 +52,7 @@ returns-4 c =
     let n = start .args .n in
     let ws = now (start .args .runs) in
     let good : steady n ws ≡ true = sym (c .before .before .before .before .before .before .is-steady .ensures) ∙ not-false _ (c .before .before .before .before .before .if2 .left) in
-    list-done n ws (oriented (start .args .reversed) n ws) (now (start .args .out)) (length ws) _ (c .before .before .before .before .before .before .before .if1 .left) good (sym (oriented-long (start .args .reversed) n ws)) (c .before .before .before .before .if3 .left) (c .before .before .fill-oriented .ensures)
+    list-done n ws (oriented (start .args .reversed) n ws) (now (start .args .out)) (length ws) _ (c .before .before .before .before .before .before .before .if1 .left) good (sym (oriented-long (start .args .reversed) n ws)) (c .before .before .before .before .if3 .left) (c .before .before .fill-oriented .ensures ∙ ap (λ (l : List ℕ). over l (now (start .args .out))) (shifted-none (oriented (start .args .reversed) n ws)))
 
 pub orient-color-runs-spec : {M : Type 1} → statement M
 orient-color-runs-spec =
