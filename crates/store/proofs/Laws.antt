@@ -3,12 +3,7 @@ pub mod Gates
 pub mod Flats
 pub mod Puts
 pub mod Rep
-pub mod Lists
-pub mod Goods
-pub mod Appends
-pub mod Merges
-pub mod Readback
-pub mod RunFacts
+pub mod Unitigs
 pub mod Table
 pub mod Same
 pub mod Adds
@@ -18,7 +13,7 @@ pub mod Shows
 pub mod Trace
 pub mod Accepted
 pub mod Lines
-pub mod Whole
+pub mod Demand
 pub mod Proved
 pub mod Parts
 pub mod Tested

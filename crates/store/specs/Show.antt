@@ -4,13 +4,13 @@ use mathlib.Core.Bool.{Bool, _||_}
 use mathlib.Core.List.{List, [], _∷_}
 use mathlib.Core.Option.{Option, none, some}
 use lib.ListN.{length, getD, take, drop}
-use lib.Dec.{ltb, leb}
+use lib.Dec.{ltb, leb, eqb}
 use Rattle.base.specs.Answers.{Answer, done, numberOf, refused}
 use Rattle.base.specs.Parts.{over}
 use Rattle.base.specs.Tests.{_when_else_}
 use Rattle.base.specs.declared.Given.{Given}
 use Rattle.base.specs.declared.Refusal.{Refusal}
-use Rattle.base.specs.declared.Refusal.the-variants.{Altered, Arguments, Colors, Coordinate, Cut, Damaged, Ids, Junction, Number, Opened, Place, Runs, Space, Unopened, Vertices}
+use Rattle.base.specs.declared.Refusal.the-variants.{Damaged, Place, Space}
 use Rattle.runs.specs.Bytes.{ReadRuns, readRuns}
 use Rattle.runs.specs.Colours.{colourAt}
 use Rattle.runs.specs.Orders.{mostVertices, sharp}
@@ -91,23 +91,9 @@ unfoldable pub bySeek : Store → (file : List ℕ) → Seek → List ℕ → An
 bySeek s file (Fail r) out = (refused (numberOf r), out)
 bySeek s file (Record at) out = shownBy (setFrom s file (some at)) out
 
--- reading a record is refused for want of space, or because it is damaged in some way
-abbrev pub spaceOr : Refusal → Refusal
-spaceOr Space = Space
-spaceOr Colors = Damaged
-spaceOr Ids = Damaged
-spaceOr Cut = Damaged
-spaceOr Damaged = Damaged
-spaceOr Runs = Damaged
-spaceOr Vertices = Damaged
-spaceOr Junction = Damaged
-spaceOr Coordinate = Damaged
-spaceOr Number = Damaged
-spaceOr Arguments = Damaged
-spaceOr Opened = Damaged
-spaceOr Unopened = Damaged
-spaceOr Place = Damaged
-spaceOr Altered = Damaged
+-- reading a record is refused for want of space (3), or because it is damaged in some way
+unfoldable pub spaceOr : Refusal → Refusal
+spaceOr r = Space when eqb (numberOf r) 3 else Damaged
 
 abbrev pub ofRead : Given → code.Answer
 ofRead (given.Done items bytes) = answered.Done items

@@ -2,6 +2,7 @@
 use crate::state::Current;
 use crate::state::Lengths;
 use crate::state::Store;
+use crate::state::Used;
 use base::Refusal;
 ghost use mathlib.Core.Path.{_≡_};
 ghost use Rattle.store.specs.Tests.{badLimits, badLengths, numberTurn, repeated};
@@ -80,56 +81,53 @@ pub(crate) fn repeated(same: bool, answer: u64) -> Gate
     Gate::Refuse(Refusal::Arguments)
 }
 
+// A buffer of another length than at start.
+fn resized(told: Lengths, sizes: Lengths) -> bool
+    ensures { λ r. ⌜ r ≡ resized told sizes ⌝ }
+{
+    if sizes.records != told.records {
+        return true;
+    }
+    if sizes.index != told.index {
+        return true;
+    }
+    if sizes.opened != told.opened {
+        return true;
+    }
+    if sizes.held != told.held {
+        return true;
+    }
+    if sizes.runs != told.runs {
+        return true;
+    }
+    sizes.table != told.table
+}
+
+// A used count that exceeds its length.
+fn overused(told: Lengths, used: Used) -> bool
+    ensures { λ r. ⌜ r ≡ overused told used ⌝ }
+{
+    let sets = used.sets as usize;
+    let unitigs = used.unitigs as usize;
+    if told.records < used.records {
+        return true;
+    }
+    if told.index < sets + 1 {
+        return true;
+    }
+    if told.opened < used.opened {
+        return true;
+    }
+    if told.held < used.held {
+        return true;
+    }
+    if told.runs < used.runs {
+        return true;
+    }
+    told.table < 2 * unitigs
+}
+
 impl Store {
-    // A buffer of another length than at start.
-    fn resized(self, sizes: Lengths) -> bool
-        ensures { λ r. ⌜ r ≡ resized (self .lengths) sizes ⌝ }
-    {
-        let told = self.lengths;
-        if sizes.records != told.records {
-            return true;
-        }
-        if sizes.index != told.index {
-            return true;
-        }
-        if sizes.opened != told.opened {
-            return true;
-        }
-        if sizes.held != told.held {
-            return true;
-        }
-        if sizes.runs != told.runs {
-            return true;
-        }
-        sizes.table != told.table
-    }
-
-    // A used count that exceeds its length.
-    fn overused(self) -> bool
-        ensures { λ r. ⌜ r ≡ overused (self .lengths) (self .used) ⌝ }
-    {
-        let told = self.lengths;
-        let used = self.used;
-        let sets = used.sets as usize;
-        let unitigs = used.unitigs as usize;
-        if told.records < used.records {
-            return true;
-        }
-        if told.index < sets + 1 {
-            return true;
-        }
-        if told.opened < used.opened {
-            return true;
-        }
-        if told.held < used.held {
-            return true;
-        }
-        if told.runs < used.runs {
-            return true;
-        }
-        told.table < 2 * unitigs
-    }
-
     // An open unitig of a bad vertex count.
     fn bad_current(self) -> bool
         ensures { λ r. ⌜ r ≡ badCurrent (self .current) ⌝ }
@@ -145,10 +143,12 @@ impl Store {
     pub(crate) fn altered(self, sizes: Lengths) -> bool
         ensures { λ r. ⌜ r ≡ altered self sizes ⌝ }
     {
-        if self.resized(sizes) {
+        let told = self.lengths;
+        let used = self.used;
+        if resized(told, sizes) {
             return true;
         }
-        if self.overused() {
+        if overused(told, used) {
             return true;
         }
         if bad_limits(self.colors, self.worker) {

@@ -38,23 +38,10 @@ fn sharp_color(bytes: &[u8], n: u32, vertex: u32) -> Colored
 fn space_or(r: Refusal) -> Refusal
     ensures { λ q. ⌜ q ≡ spaceOr r ⌝ }
 {
-    match r {
-        Refusal::Space => Refusal::Space,
-        Refusal::Colors => Refusal::Damaged,
-        Refusal::Ids => Refusal::Damaged,
-        Refusal::Cut => Refusal::Damaged,
-        Refusal::Damaged => Refusal::Damaged,
-        Refusal::Runs => Refusal::Damaged,
-        Refusal::Vertices => Refusal::Damaged,
-        Refusal::Junction => Refusal::Damaged,
-        Refusal::Coordinate => Refusal::Damaged,
-        Refusal::Number => Refusal::Damaged,
-        Refusal::Arguments => Refusal::Damaged,
-        Refusal::Opened => Refusal::Damaged,
-        Refusal::Unopened => Refusal::Damaged,
-        Refusal::Place => Refusal::Damaged,
-        Refusal::Altered => Refusal::Damaged,
+    if base::number_of(r) == 3 {
+        return Refusal::Space;
     }
+    Refusal::Damaged
 }
 
 fn read_answer(got: Given) -> Answer

@@ -2,7 +2,7 @@
 use Prim.Native.Nat.{ℕ, zero, suc, _+_, _-_, _*_, _<_, _≤_, min}
 use mathlib.Core.Path.{_≡_, refl, sym, ap, ap₂, _∙_}
 use mathlib.Core.Bool.{Bool, true, false, not}
-use mathlib.Core.List.{List, [], _∷_, _++_, map, map-append, append-assoc, append-nil}
+use mathlib.Core.List.{List, [], _∷_, _++_, map, map-append, append-assoc}
 use mathlib.Core.Option.{Option, none, some}
 use native.Mathlib.Omega.{arith}
 use native.Mathlib.Nat.{add-zero, zero-add}
@@ -24,6 +24,7 @@ use Rattle.store.specs.Gate.{altered}
 use Rattle.store.specs.Demand.{Lent, say, look, Seen, codeStep, codeRun}
 use Rattle.store.specs.declared.state.Store.{Store}
 use Rattle.store.specs.declared.state.Way.the-variants.{Line, Cycle}
+use Rattle.store.proofs.Laws.Flats.{flat-more}
 use Rattle.replay.specs.declared.Head.{Head}
 use Rattle.replay.specs.declared.Said.{Said}
 use Rattle.replay.specs.Tape.{refusalIn, valueIn, outIn, part, headAt, lentOf, roomOf, lentTo, callAt, callsTo, placed, oneOf, Tape, tape, keep}
@@ -79,11 +80,6 @@ out-long : (s : Store) (b : Bufs) (c : Lent) → length (outIn (codeStep s b c .
 unfolding codeStep lentTo
 out-long s b (say i d) = refl
 out-long s b (look u v out) = show-long s b u v out ∙ sym (add-zero (length out))
-
-flat-more : (xs : List Seen) (x : Seen) → flat outIn (xs ++ (x ∷ [])) ≡ flat outIn xs ++ outIn x
-unfolding flat
-flat-more [] x = append-nil (outIn x)
-flat-more (y ∷ xs) x = rw (flat-more xs x) (sym (append-assoc (outIn y) (flat outIn xs) (outIn x)))
 
 lent-none : 0 ≡ lentTo []
 unfolding lentTo
@@ -275,7 +271,7 @@ module _ (s₀ : Store) (b₀ : Bufs) (words ids pieces x₀ y₀ z₀ : List �
         let lo : length (outIn (k .0)) ≡ room = out-long (r .1) (r .2) c ∙ room-is words ids pieces z₀ i at room head inside ea eh er in
         let u0 : set x i (t .refusal) ≡ over (map refusalIn (r .0 ++ (k .0 ∷ []))) x₀ = ap₂ (λ (l : List ℕ) (v : ℕ). set l i v) ex t0 ∙ told-more refusalIn (r .0) (k .0) x₀ i long hx in
         let u1 : set y i (t .answer) ≡ over (map valueIn (r .0 ++ (k .0 ∷ []))) y₀ = ap₂ (λ (l : List ℕ) (v : ℕ). set l i v) ey t1 ∙ told-more valueIn (r .0) (k .0) y₀ i long hy in
-        let u2 : z′ ≡ over (flat outIn (r .0 ++ (k .0 ∷ []))) z₀ = t4 ∙ placed-more front z₀ (outIn (k .0)) at room wide lo ∙ ap (λ (l : List ℕ). over l z₀) (sym (flat-more (r .0) (k .0))) in
+        let u2 : z′ ≡ over (flat outIn (r .0 ++ (k .0 ∷ []))) z₀ = t4 ∙ placed-more front z₀ (outIn (k .0)) at room wide lo ∙ ap (λ (l : List ℕ). over l z₀) (sym (flat-more outIn (r .0) (k .0))) in
         let run : codeRun s₀ b₀ (calls (i + 1)) ≡ addEnd r c = ap (codeRun s₀ b₀) (calls-more words ids pieces z₀ i ∙ ap (λ (d : Lent). calls i ++ (d ∷ [])) (here-is words ids pieces z₀ i at room head inside ea eh er)) ∙ run-more s₀ b₀ (calls i) c in
         rw (t2, t3, u0, u1, u2, run)
 

@@ -15,11 +15,12 @@ use Rattle.base.specs.Tests.{_when_else_}
 use Rattle.base.specs.declared.Refusal.{Refusal}
 use Rattle.base.specs.declared.Refusal.the-variants.{Ids, Opened, Space}
 use Rattle.base.specs.declared.Written.{Written}
+use Rattle.base.proofs.Bools.{and-true, or-none}
+use Rattle.base.proofs.Parts.{put-tail, tail-is}
 use Rattle.base.proofs.Tests.{when-no}
 use Rattle.codec.specs.Records.{ReadRecord, badColors, givesIds, isRecord, recordLength, recordOf, writeRecord}
 use Rattle.codec.specs.Sets.{within}
 use Rattle.runs.specs.Words.{coordinateOf, placeOf, workerOf}
-use Rattle.runs.proofs.Laws.Bytes.{room}
 use Rattle.store.specs.Add.{AddReady, addFiled, addIn, addStep, addTest, addUsed, noSpace}
 use Rattle.store.specs.Filed.{is, ofFound, recordStart, setAt, setFrom, setIn, unnamed}
 use Rattle.store.specs.Gate.{byGate, gateThen, isOpened, sameAdd}
@@ -36,8 +37,8 @@ use Rattle.store.specs.declared.state.Last.{Last}
 use Rattle.store.specs.declared.state.Store.{Store}
 use Rattle.store.specs.declared.state.Told.{Told}
 use Rattle.store.specs.declared.state.Way.{Way}
-use Rattle.store.proofs.Laws.Gates.{both-right, none-left, none-right, refuse-go}
-use Rattle.store.proofs.Laws.Parts.{part-is, put-tail, tail-is}
+use Rattle.store.proofs.Laws.Gates.{refuse-go}
+use Rattle.store.proofs.Laws.Parts.{part-is}
 use Rattle.store.proofs.Laws.Tested.{gate-let}
 use Rattle.base.specs.Answers as answer
 use Rattle.store.specs.declared.state.Answer.the-variants as answered
@@ -79,7 +80,7 @@ start-there r s index coord p e h k l =
 pub named-place : (r : Bool) (s : Store) (coord p : ℕ) → r ≡ unnamed s coord → r ≡ false → p ≡ placeOf coord → p < s .used .sets
 unfolding unnamed
 named-place r s coord p e h k =
-    let t : leb (s .used .sets) (placeOf coord) ≡ false = none-right (not (eqb (workerOf coord) (s .worker))) _ (sym e ∙ h) in
+    let t : leb (s .used .sets) (placeOf coord) ≡ false = or-none (not (eqb (workerOf coord) (s .worker))) _ (sym e ∙ h) .1 in
     rw k (leb-false _ _ t)
 
 -- where a record begins is within what is used
@@ -231,14 +232,13 @@ add-ready g s b i ids e h =
     let c = refuse-go _ _ _ (a .1) in
     let d = refuse-go _ _ _ (c .1) in
     let long : Bool = ltb (s .lengths .records) (s .used .records + length (recordOf (s .colors) ids)) in
-    let full : Bool = ltb (s .lengths .index) (s .used .sets + 2) in
-    let x : s .used .records + length (recordOf (s .colors) ids) ≤ s .lengths .records = ltb-false _ _ (none-left long full (d .0)) in
-    let y : s .used .sets + 2 ≤ s .lengths .index = ltb-false _ _ (none-right long full (d .0)) in
+    let x : s .used .records + length (recordOf (s .colors) ids) ≤ s .lengths .records = ltb-false _ _ (or-none _ _ (d .0) .0) in
+    let y : s .used .sets + 2 ≤ s .lengths .index = ltb-false _ _ (or-none long _ (d .0) .1) in
     let x′ : s .used .records + length (recordOf (s .colors) ids) ≤ length (b .records) = rw (o .lengths) at x in
     let y′ : s .used .sets + 2 ≤ length (b .index) = rw (o .lengths) at y in
     record {
       colors = o .colors;
-      isSet = both-right (not (noIds ids)) (within 0 (s .colors) ids) (not-false _ (c .0));
+      isSet = and-true (not (noIds ids)) _ (not-false _ (c .0)) .1;
       room = x′;
       entry = omega arith;
       smallRecords = o .smallRecords;

@@ -1,36 +1,33 @@
 -- An accepted add: the record file, its index, and what ties the two stores.
 use Prim.Native.Nat.{ℕ, _+_, _≤_, _<_}
 use mathlib.Core.Path.{_≡_, refl, sym, ap, _∙_}
-use mathlib.Core.Bool.{Bool, true, false, _&&_}
+use mathlib.Core.Bool.{true}
 use mathlib.Core.List.{List, [], _∷_, _++_}
 use mathlib.Core.Option.{Option, none, some}
 use native.Mathlib.Omega.{arith}
 use native.Mathlib.Nat.{zero-add}
 use native.Mathlib.Numerals.{add-one}
-use lib.ListN.{length, getD, set, length-append, length-set, List·getD-append}
+use lib.ListN.{length, set, length-append, length-set}
 use lib.Seq.{take-suc-set, getD-append-seam}
-use lib.Dec.{ltb, eqb}
-use borrow.Author.Tests.{ltb-false, ltb-true, lt-ltb, not-false}
+use lib.Dec.{ltb}
+use borrow.Author.Tests.{ltb-false, not-false}
+use Rattle.base.proofs.All.{all-append, all-less}
+use Rattle.base.proofs.Bools.{or-none}
 use Rattle.codec.specs.Flat.{starts}
-use Rattle.codec.specs.Index.{entries}
 use Rattle.codec.specs.Records.{fileOf, recordOf}
-use Rattle.codec.proofs.Laws.Cases.{table}
-use Rattle.runs.specs.Words.{coordinate, placeOf, workerOf}
-use Rattle.runs.proofs.Laws.Bytes.{room}
 use Rattle.store.specs.Add.{addFiled, addPut, addTest, noSpace}
 use Rattle.store.specs.Gate.{isOpened}
-use Rattle.store.specs.Plain.{Deed, Plain, Unitig, accepted, add, addTests, again, effect, filed, gate, isOpen, sameDeed, tests}
+use Rattle.store.specs.Plain.{Deed, Plain, Unitig, accepted, add, addTests, again, effect, gate, isOpen, sameDeed, tests}
 use Rattle.store.specs.State.{Bufs, after, put}
-use Rattle.store.specs.Tests.{aSet, named, numberTurn}
+use Rattle.store.specs.Tests.{aSet, numberTurn}
 use Rattle.store.specs.declared.gate.Gate.the-variants.{Go}
 use Rattle.store.specs.declared.gate.Turn.the-variants.{New}
 use Rattle.store.specs.declared.state.Current.{Current}
 use Rattle.store.specs.declared.state.Store.{Store}
 use Rattle.store.proofs.Laws.Flats.{flat-more, starts-more}
-use Rattle.store.proofs.Laws.Gates.{both-left, both-right, none-left, none-right, refuse-go, repeated-not-go, turn-go}
-use Rattle.store.proofs.Laws.Lists.{up}
+use Rattle.store.proofs.Laws.Gates.{refuse-go, repeated-not-go, turn-go}
 use Rattle.store.proofs.Laws.Puts.{put-length, put-take}
-use Rattle.store.proofs.Laws.Rep.{Closed, Filed, Good, OpenRep, Rep, added, runsOfU}
+use Rattle.store.proofs.Laws.Rep.{Closed, Filed, Good, IsSet, Named, OpenRep, Rep, added}
 use Rattle.store.proofs.Laws.Rep as rep
 
 -- ---- one record more
@@ -41,18 +38,6 @@ module _ {N : ℕ} {S : List (List ℕ)} {used sets : ℕ} {file index : List �
 
   long-sets : length (S ++ (ids ∷ [])) ≡ length S + 1
   long-sets = length-append S (ids ∷ [])
-
-  each-set : (k : ℕ) → k < length (S ++ (ids ∷ [])) → aSet N (getD (S ++ (ids ∷ [])) k []) ≡ true
-  each-set k h = go (ltb k (length S)) refl
-    where
-      go : (t : Bool) → ltb k (length S) ≡ t → aSet N (getD (S ++ (ids ∷ [])) k []) ≡ true
-      go true e =
-          let g : k < length S = ltb-true _ _ e in
-          rw (List·getD-append S (ids ∷ []) [] k g) (f .each k g)
-      go false e =
-          let g : length S ≤ k = ltb-false _ _ e in
-          let q : k ≡ length S = omega (arith, long-sets) in
-          rw (q, getD-append-seam S ids [] []) ok
 
   pub filed-more : Filed N (S ++ (ids ∷ [])) (used + length (recordOf N ids)) (sets + 1) (put used (recordOf N ids) file) (set index (sets + 1) (used + length (recordOf N ids)))
   filed-more =
@@ -70,24 +55,10 @@ module _ {N : ℕ} {S : List (List ℕ)} {used sets : ℕ} {file index : List �
         places =
             rw (long-sets, f .many, u, add-one (length S + 1), take-suc-set index (length S + 1) (length (fileOf N S) + length (recordOf N ids)) x, f .places)
             (sym (starts-more (recordOf N) 0 S ids ∙ ap (λ (n : ℕ). starts (recordOf N) 0 S ++ ((n + length (recordOf N ids)) ∷ [])) (zero-add (length (fileOf N S)))));
-        each = each-set;
+        each = all-append (IsSet N) S (ids ∷ []) (f .each) (ok, tt);
       }
 
 -- ---- a set more leaves what is named named
-
-ltb-more : (a m n : ℕ) → m ≤ n → ltb a m ≡ true → ltb a n ≡ true
-ltb-more a m n h e = let g : a < m = ltb-true a m e in let k : a < n = omega arith in lt-ltb a n k
-
-pub named-more : (W m n : ℕ) → m ≤ n → (runs : List ℕ) → named W m runs ≡ true → named W n runs ≡ true
-unfolding named
-named-more W m n h [] e = refl
-named-more W m n h (r ∷ rs) e =
-    let own : Bool = eqb (workerOf (coordinate r)) W in
-    let low : Bool = ltb (placeOf (coordinate r)) m in
-    let a : (own && low) ≡ true = both-left (own && low) (named W m rs) e in
-    let x : eqb (workerOf (coordinate r)) W ≡ true = both-left own low a in
-    let y : ltb (placeOf (coordinate r)) n ≡ true = ltb-more (placeOf (coordinate r)) m n h (both-right own low a) in
-    rw (x, y) (named-more W m n h rs (both-right (own && low) (named W m rs) e))
 
 pub good-more : {W m n : ℕ} {u : Unitig} → m ≤ n → Good W m u → Good W n u
 good-more {W} {m} {n} {u} h g =
@@ -97,7 +68,7 @@ good-more {W} {m} {n} {u} h g =
       isSharp = g .isSharp;
       tell = g .tell;
       offsets = g .offsets;
-      names = named-more W m n h (runsOfU u) (g .names);
+      names = all-less {P = Named W m} {Q = Named W n} (λ c a. record { own = a .own; low = omega (arith, a .low) }) (u .coords) (g .names);
     }
 
 pub open-more : {W m n : ℕ} {c : Option Unitig} {o : Current} {used : ℕ} {runs : List ℕ} → m ≤ n → OpenRep W m c o used runs → OpenRep W n c o used runs
@@ -105,7 +76,7 @@ open-more h rep.closed = rep.closed
 open-more h (rep.opened e g t) = rep.opened e (good-more h g) t
 
 pub closed-more : {W m n : ℕ} {us : List Unitig} {used unitigs : ℕ} {file table : List ℕ} → m ≤ n → Closed W m us used unitigs file table → Closed W n us used unitigs file table
-closed-more h c =
+closed-more {W} {m} {n} {us} h c =
     record {
       far = c .far;
       many = c .many;
@@ -113,7 +84,7 @@ closed-more h c =
       pairs = c .pairs;
       bytes = c .bytes;
       places = c .places;
-      each = λ k l. good-more h (c .each k l);
+      each = all-less {P = Good W m} {Q = Good W n} (λ u g. good-more h g) us (c .each);
     }
 
 -- ---- add
@@ -151,8 +122,8 @@ module _ (p : Plain) (s : Store) (b : Bufs) (r : Rep p s b) where
         let d = refuse-go _ _ _ (c .1) in
         let ok : aSet (p .N) ids ≡ true = not-false _ (c .0) in
         let z = r .sizes in
-        let room : length (fileOf (p .N) (p .S)) + length (recordOf (p .N) ids) ≤ p .lengths .records = ltb-false _ _ (none-left (ltb (p .lengths .records) (length (fileOf (p .N) (p .S)) + length (recordOf (p .N) ids))) (ltb (p .lengths .index) (length (p .S) + 2)) (d .0)) in
-        let entry : length (p .S) + 2 ≤ p .lengths .index = ltb-false _ _ (none-right (ltb (p .lengths .records) (length (fileOf (p .N) (p .S)) + length (recordOf (p .N) ids))) (ltb (p .lengths .index) (length (p .S) + 2)) (d .0)) in
+        let room : length (fileOf (p .N) (p .S)) + length (recordOf (p .N) ids) ≤ p .lengths .records = ltb-false _ _ (or-none _ _ (d .0) .0) in
+        let entry : length (p .S) + 2 ≤ p .lengths .index = ltb-false _ _ (or-none (ltb (p .lengths .records) (length (fileOf (p .N) (p .S)) + length (recordOf (p .N) ids))) _ (d .0) .1) in
         let room′ : length (fileOf (p .N) (p .S)) + length (recordOf (p .N) ids) ≤ length (b .records) = omega arith in
         let entry′ : length (p .S) + 2 ≤ length (b .index) = omega arith in
         let more : length (p .S ++ (ids ∷ [])) ≡ length (p .S) + 1 = length-append (p .S) (ids ∷ []) in

@@ -1,7 +1,7 @@
 -- A close: its tests, and what ties the two stores after an accepted one.
 use Prim.Native.Nat.{ℕ, _+_, _*_, _%_, _≤_}
 use mathlib.Core.Path.{_≡_, refl, sym, ap, _∙_}
-use mathlib.Core.Bool.{Bool, true, _||_}
+use mathlib.Core.Bool.{true, _||_}
 use mathlib.Core.List.{List, [], _∷_, _++_}
 use mathlib.Core.Option.{Option, none}
 use native.Mathlib.Omega.{arith}
@@ -10,7 +10,7 @@ use lib.Dec.{ltb}
 use borrow.Author.Tests.{ltb-false}
 use Rattle.base.specs.Tests.{_when_else_}
 use Rattle.base.specs.declared.Refusal.the-variants.{Space}
-use Rattle.codec.proofs.Laws.Cases.{table}
+use Rattle.base.proofs.Bools.{or-none}
 use Rattle.runs.specs.Bytes.{runBytes}
 use Rattle.runs.specs.Orders.{sharp}
 use Rattle.runs.specs.Rotate.{merged, rotateRuns, turn}
@@ -22,12 +22,11 @@ use Rattle.store.specs.declared.state.Current.{Current}
 use Rattle.store.specs.declared.state.Store.{Store}
 use Rattle.store.specs.declared.state.Way.{Way}
 use Rattle.store.specs.declared.state.Way.the-variants.{Cycle, Line}
-use Rattle.store.proofs.Laws.Gates.{none-left, none-right, refuse-go}
+use Rattle.store.proofs.Laws.Gates.{refuse-go}
 use Rattle.store.proofs.Laws.Puts.{put-length}
-use Rattle.store.proofs.Laws.Readback.{wide}
 use Rattle.store.proofs.Laws.Rep.{Good, OpenRep, Rep, runsOfU}
-use Rattle.store.proofs.Laws.RunFacts.{RunFacts}
 use Rattle.store.proofs.Laws.Table.{closed-one}
+use Rattle.store.proofs.Laws.Unitigs.{turn-good}
 use Rattle.store.proofs.Laws.Rep as rep
 
 -- what is filed are the runs of the filed unitig
@@ -36,14 +35,14 @@ unfolding filing filed rotateRuns merged
 filing-is W k Line u g = refl
 filing-is W k (Cycle pivot) u g = ap (λ (c : List ℕ). merged (turn (pivot % length (u .coords)) c)) (g .tell)
 
-module _ (F : RunFacts) (p : Plain) (s : Store) (b : Bufs) (r : Rep p s b) (way : Way) where
+module _ (p : Plain) (s : Store) (b : Bufs) (r : Rep p s b) (way : Way) where
   filed-good : (u : Unitig) → Good (p .W) (length (p .S)) u → Good (p .W) (length (p .S)) (filed way u) × (length (filed way u .coords) ≡ length (u .coords))
   unfolding filed
   filed-good u g = go way
     where
       go : (w : Way) → Good (p .W) (length (p .S)) (filed w u) × (length (filed w u .coords) ≡ length (u .coords))
       go Line = (g, refl)
-      go (Cycle pivot) = F .turn (p .W) (length (p .S)) pivot u g
+      go (Cycle pivot) = turn-good pivot u g
 
   abbrev old : List ℕ
   old = take (s .used .opened) (b .opened)
@@ -77,16 +76,14 @@ module _ (F : RunFacts) (p : Plain) (s : Store) (b : Bufs) (r : Rep p s b) (way 
     filing-of rep.closed e = let z : _≡_ {A = ℕ} 0 1 = cc in absurd (omega arith)
     filing-of (rep.opened {u} {n = m} q g t) e =
         let a = refuse-go _ _ _ e in
-        let long : Bool = ltb (p .lengths .runs) (length (closedBytes (p .closed)) + length (bytesOf (filed way u))) in
-        let wide : Bool = ltb (p .lengths .table) (2 * length (p .closed) + 2) in
         record {
           v = filed way u;
           good = filed-good u g .0;
           bytes = rw (t, q) (ap runBytes (filing-is (p .W) (length (p .S)) way u g));
           count = q ∙ sym (filed-good u g .1);
           does = refl;
-          room = ltb-false _ _ (none-left long wide (a .0));
-          pair = ltb-false _ _ (none-right long wide (a .0));
+          room = ltb-false _ _ (or-none _ _ (a .0) .0);
+          pair = ltb-false _ _ (or-none (ltb (p .lengths .runs) (length (closedBytes (p .closed)) + length (bytesOf (filed way u)))) _ (a .0) .1);
         }
 
     pub grown : Rep (accepted p i (close way) (effect p (close way))) (closePut s b i way .1) (closePut s b i way .2)

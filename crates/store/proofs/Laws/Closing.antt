@@ -15,17 +15,18 @@ use Rattle.base.specs.Tests.{_when_else_}
 use Rattle.base.specs.declared.Refusal.{Refusal}
 use Rattle.base.specs.declared.Refusal.the-variants.{Damaged, Space, Unopened}
 use Rattle.base.specs.declared.Written.{Written}
+use Rattle.base.proofs.Bools.{or-none}
+use Rattle.base.proofs.Parts.{put-tail, tail-is}
 use Rattle.base.proofs.Tests.{when-no, when-yes}
-use Rattle.codec.proofs.Laws.Cases.{table}
 use Rattle.runs.specs.Bytes.{runBytes, writeRotated, writeRuns}
 use Rattle.runs.specs.Orders.{sharp, steady}
 use Rattle.runs.specs.Rotate.{rotateRuns}
 use Rattle.runs.proofs.Laws.Bytes.{write-turned}
 use Rattle.runs.proofs.Laws.Cursor.{rotate-few}
-use Rattle.runs.proofs.Laws.Orders.{sharp-steady, sharp-yes, taken, yes-steady}
+use Rattle.runs.proofs.Laws.Orders.{steady-sharp, taken}
 use Rattle.store.specs.Close.{CloseReady, closeEarly, closeFiled, closeFiledOf, closeIn, closeLate, closeOpen, closePut, closeStep, closeTest, closeUsed, countOf, filedRunsInto, filing, filingBytes, noCloseSpace}
 use Rattle.store.specs.Gate.{Sound, badCurrent, badVertices, byGate, gateThen, sameClose, turnOf}
-use Rattle.store.specs.Plain.{close, isOpen, sameWay}
+use Rattle.store.specs.Plain.{close, sameWay}
 use Rattle.store.specs.State.{Bufs, Outcome, after, bufs, lengthsOf, ofAnswer, put, told}
 use Rattle.store.specs.Tests.{byTurn, repeated}
 use Rattle.store.specs.declared.gate.Gate.{Gate}
@@ -40,8 +41,7 @@ use Rattle.store.specs.declared.state.Store.{Store}
 use Rattle.store.specs.declared.state.Told.{Told}
 use Rattle.store.specs.declared.state.Way.{Way}
 use Rattle.store.specs.declared.state.Way.the-variants.{Cycle, Line}
-use Rattle.store.proofs.Laws.Gates.{go-again, none-right, or-right-no, refuse-again, refuse-go, repeated-not-go, turn-go}
-use Rattle.store.proofs.Laws.Parts.{put-tail, tail-is}
+use Rattle.store.proofs.Laws.Gates.{go-again, or-right-no, refuse-again, refuse-go, repeated-not-go, turn-go}
 use Rattle.store.proofs.Laws.Tested.{gate-let, new-sound, step-again, step-refused}
 use Rattle.base.specs.Answers as answer
 use Rattle.store.specs.declared.state.Answer.the-variants as answered
@@ -124,7 +124,7 @@ early-let (Open n) old rest e = let a = refuse-go _ _ _ e in (not-false _ (a .0)
 few-vertices : (c : Current) → badCurrent c ≡ false → countOf c ≤ 16777215
 unfolding badCurrent badVertices countOf
 few-vertices Nothing e = omega arith
-few-vertices (Open n) e = ltb-false _ _ (none-right (eqb n 0) _ e)
+few-vertices (Open n) e = ltb-false _ _ (or-none (eqb n 0) _ e .1)
 
 pub close-ready : (g : Gate) (s : Store) (b : Bufs) (i : ℕ) (way : Way) → g ≡ gateThen s b i (close way) (closeEarly s (b .opened)) → g ≡ Go → CloseReady s (b .opened) (length (b .runs)) (length (b .table))
 unfolding closeEarly
@@ -148,9 +148,6 @@ close-ready g s b i way e h =
     }
 
 -- ---- the run bytes are written
-
-pub steady-sharp : (n : ℕ) (ws : List ℕ) → sharp n ws ≡ true → steady n ws ≡ true
-steady-sharp n ws e = yes-steady n ws (sharp-steady n ws (sharp-yes n ws e))
 
 space-same : (at k : ℕ) (file : List ℕ) → at ≤ length file → ltb (length (drop at file)) k ≡ ltb (length file) (at + k)
 space-same at k file h = go (ltb (length file) (at + k)) refl

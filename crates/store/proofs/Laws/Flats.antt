@@ -4,20 +4,25 @@ use mathlib.Core.Path.{_≡_, refl, sym, ap, _∙_}
 use mathlib.Core.List.{List, [], _∷_, _++_, append-assoc, append-nil}
 use native.Mathlib.Omega.{arith}
 use native.Mathlib.Nat.{add-zero}
-use lib.ListN.{length, getD, take, drop, length-append}
+use lib.ListN.{length, getD, take, drop, length-append, take-append-drop}
 use lib.Seq.{drop-append-add}
 use Rattle.codec.specs.Flat.{flat, starts}
 
 module _ {A : Type 0} (enc : A → List ℕ) where
-  pub flat-more : (xs : List A) (x : A) → flat enc (xs ++ (x ∷ [])) ≡ flat enc xs ++ enc x
-  unfolding flat
-  flat-more [] x = append-nil (enc x)
-  flat-more (y ∷ xs) x = rw (flat-more xs x) (sym (append-assoc (enc y) (flat enc xs) (enc x)))
-
-  pub flat-append : (xs ys : List A) → flat enc (xs ++ ys) ≡ flat enc xs ++ flat enc ys
+  flat-append : (xs ys : List A) → flat enc (xs ++ ys) ≡ flat enc xs ++ flat enc ys
   unfolding flat
   flat-append [] ys = refl
   flat-append (x ∷ xs) ys = rw (flat-append xs ys) (sym (append-assoc (enc x) (flat enc xs) (flat enc ys)))
+
+  pub flat-more : (xs : List A) (x : A) → flat enc (xs ++ (x ∷ [])) ≡ flat enc xs ++ enc x
+  unfolding flat
+  flat-more xs x = flat-append xs (x ∷ []) ∙ ap (λ (l : List ℕ). flat enc xs ++ l) (append-nil (enc x))
+
+  -- some of the items are no longer than all
+  pub flat-take : (xs : List A) (k : ℕ) → length (flat enc (take k xs)) ≤ length (flat enc xs)
+  flat-take xs k =
+      let e : flat enc (take k xs) ++ flat enc (drop k xs) ≡ flat enc xs = sym (flat-append (take k xs) (drop k xs)) ∙ ap (flat enc) (take-append-drop k xs) in
+      omega (arith, simp length-append at (ap length e))
 
   pub starts-more : (o : ℕ) (xs : List A) (x : A) → starts enc o (xs ++ (x ∷ [])) ≡ starts enc o xs ++ ((o + length (flat enc xs) + length (enc x)) ∷ [])
   unfolding flat starts
@@ -25,13 +30,6 @@ module _ {A : Type 0} (enc : A → List ℕ) where
   starts-more o (y ∷ xs) x =
       let e : o + length (enc y) + length (flat enc xs) + length (enc x) ≡ o + length (enc y ++ flat enc xs) + length (enc x) = omega (arith, length-append (enc y) (flat enc xs)) in
       ap (λ (l : List ℕ). o ∷ l) (starts-more (o + length (enc y)) xs x ∙ ap (λ (n : ℕ). starts enc (o + length (enc y)) xs ++ (n ∷ [])) e)
-
-  pub starts-long : (o : ℕ) (xs : List A) → length (starts enc o xs) ≡ length xs + 1
-  unfolding starts
-  starts-long o [] = refl
-  starts-long o (x ∷ xs) =
-      let h : length (starts enc (o + length (enc x)) xs) ≡ length xs + 1 = starts-long (o + length (enc x)) xs in
-      omega arith
 
   -- item k begins where the k items before it end
   pub start-at : (o : ℕ) (xs : List A) (k : ℕ) → k ≤ length xs → getD (starts enc o xs) k 0 ≡ o + length (flat enc (take k xs))

@@ -1,25 +1,19 @@
 -- Tests and gates.
 use Prim.Native.Nat.{ℕ, _+_}
 use mathlib.Core.Path.{_≡_, refl}
-use mathlib.Core.Bool.{Bool, true, false, not, _||_, _&&_}
+use mathlib.Core.Bool.{Bool, true, false, not, _||_}
 use native.Mathlib.Omega.{arith}
 use lib.Dec.{eqb}
 use borrow.Author.Tests.{eq-eqb, eqb-true, not-false}
 use Rattle.base.specs.Tests.{_when_else_}
 use Rattle.base.specs.declared.Refusal.{Refusal}
 use Rattle.base.specs.declared.Refusal.the-variants.{Number}
-use Rattle.base.proofs.Bools.{and-true, or-none}
+use Rattle.base.proofs.Bools.{or-none}
 use Rattle.store.specs.Tests.{byTurn, numberTurn, repeated}
 use Rattle.store.specs.declared.gate.Gate.{Gate}
 use Rattle.store.specs.declared.gate.Gate.the-variants.{Again, Go, Refuse}
 use Rattle.store.specs.declared.gate.Turn.{Turn}
 use Rattle.store.specs.declared.gate.Turn.the-variants.{New, Old, Stop}
-
-pub none-left : (a b : Bool) → (a || b) ≡ false → a ≡ false
-none-left a b e = or-none a b e .0
-
-pub none-right : (a b : Bool) → (a || b) ≡ false → b ≡ false
-none-right a b e = or-none a b e .1
 
 pub none-five : (a b c d e : Bool) → (a || b || c || d || e) ≡ false → (a ≡ false) × (b ≡ false) × (c ≡ false) × (d ≡ false) × (e ≡ false)
 none-five a b c d e h =
@@ -44,12 +38,6 @@ none-seven a b c d e f g h =
 pub or-right-no : (a b : Bool) → b ≡ false → (a || b) ≡ a
 or-right-no true b e = refl
 or-right-no false b e = e
-
-pub both-left : (a b : Bool) → (a && b) ≡ true → a ≡ true
-both-left a b e = and-true a b e .0
-
-pub both-right : (a b : Bool) → (a && b) ≡ true → b ≡ true
-both-right a b e = and-true a b e .1
 
 pub same-not : (m n : ℕ) → m ≡ n → not (eqb m n) ≡ false
 same-not m n e = rw (eq-eqb m n e)
@@ -108,6 +96,6 @@ pub new-number : (last i : ℕ) → numberTurn last i ≡ New → (eqb i last �
 unfolding numberTurn
 new-number last i e =
     let d = turn-new (eqb i 0 || not (eqb i last || eqb i (last + 1))) (eqb i last) e in
-    let n : not (eqb i last || eqb i (last + 1)) ≡ false = none-right (eqb i 0) _ (d .0) in
+    let n : not (eqb i last || eqb i (last + 1)) ≡ false = or-none (eqb i 0) _ (d .0) .1 in
     let m : not (false || eqb i (last + 1)) ≡ false = rw (d .1) at n in
     (d .1, eqb-true i (last + 1) (not-false (eqb i (last + 1)) m))

@@ -15,6 +15,7 @@ use Rattle.base.specs.Parts.{over}
 use Rattle.base.specs.Tests.{_when_else_}
 use Rattle.base.specs.declared.Refusal.the-variants.{Coordinate, Damaged, Junction, Runs, Space, Vertices}
 use Rattle.base.specs.declared.Written.{Written}
+use Rattle.base.proofs.Bools.{or-none}
 use Rattle.base.proofs.Parts.{over-behind}
 use Rattle.base.proofs.Tests.{when-no}
 use Rattle.codec.specs.Records.{same}
@@ -25,9 +26,9 @@ use Rattle.runs.specs.Reverse.{orientInto, oriented}
 use Rattle.runs.specs.Words.{coordinate, placeOf, workerOf}
 use Rattle.runs.specs.declared.append.Appended.{Appended}
 use Rattle.runs.proofs.Laws.Append.{length-shifted, skip-yes}
-use Rattle.runs.proofs.Laws.Bytes.{room}
 use Rattle.runs.proofs.Laws.Joints.{sharp-joinable}
-use Rattle.runs.proofs.Laws.Orders.{sharp-yes}
+use Rattle.runs.proofs.Laws.Orders.{sharp-yes, steady-sharp}
+use Rattle.runs.proofs.Laws.Reverse.{oriented-long}
 use Rattle.store.specs.Gate.{badCurrent, badVertices, byGate, gateThen, sameJoin}
 use Rattle.store.specs.Join.{JoinReady, OpenReady, appendedOf, joinFiled, joinFiledAt, joinIn, joinStep, joinTest, joinUsed, openAfter, openAt, openCount, openNew, openSpace, openTest, writtenOf}
 use Rattle.store.specs.Plain.{join}
@@ -41,10 +42,7 @@ use Rattle.store.specs.declared.state.Last.{Last}
 use Rattle.store.specs.declared.state.Store.{Store}
 use Rattle.store.specs.declared.state.Told.{Told}
 use Rattle.store.specs.declared.state.Way.{Way}
-use Rattle.store.proofs.Laws.Closing.{steady-sharp}
-use Rattle.store.proofs.Laws.Gates.{none-left, none-right, refuse-go}
-use Rattle.store.proofs.Laws.Goods.{piece}
-use Rattle.store.proofs.Laws.Lines.{oriented-long}
+use Rattle.store.proofs.Laws.Gates.{refuse-go}
 use Rattle.store.proofs.Laws.Tested.{gate-let}
 use Rattle.base.specs.Answers as answer
 use Rattle.store.specs.declared.state.Answer.the-variants as answered
@@ -298,11 +296,10 @@ join-ready g s b i n back piece e h =
     let a9 = refuse-go _ _ _ (a6 .1) in
     let a8 = open-let (s .current) (take (s .used .opened) (b .opened)) (oriented back n piece) _ (a9 .1) in
     let a3 = refuse-go _ _ _ (a8 .1) in
-    let z : n ≡ 0 → ⊥ = eqb-false n 0 (none-left (eqb n 0) (ltb 16777215 (openCount (s .current) n)) (a7 .0)) in
-    let w : openCount (s .current) n ≤ 16777215 = ltb-false 16777215 _ (none-right (eqb n 0) (ltb 16777215 (openCount (s .current) n)) (a7 .0)) in
-    let new : ℕ = openAt (s .current) (s .used .opened) + length (openNew (s .current) (take (s .used .opened) (b .opened)) (oriented back n piece)) in
-    let x : openAt (s .current) (s .used .opened) + length (openNew (s .current) (take (s .used .opened) (b .opened)) (oriented back n piece)) ≤ s .lengths .opened = ltb-false _ _ (none-left (ltb (s .lengths .opened) new) (ltb (s .lengths .held) (length piece)) (a3 .0)) in
-    let y : length piece ≤ s .lengths .held = ltb-false _ _ (none-right (ltb (s .lengths .opened) new) (ltb (s .lengths .held) (length piece)) (a3 .0)) in
+    let z : n ≡ 0 → ⊥ = eqb-false n 0 (or-none _ _ (a7 .0) .0) in
+    let w : openCount (s .current) n ≤ 16777215 = ltb-false 16777215 _ (or-none (eqb n 0) _ (a7 .0) .1) in
+    let x : openAt (s .current) (s .used .opened) + length (openNew (s .current) (take (s .used .opened) (b .opened)) (oriented back n piece)) ≤ s .lengths .opened = ltb-false _ _ (or-none _ _ (a3 .0) .0) in
+    let y : length piece ≤ s .lengths .held = ltb-false _ _ (or-none (ltb (s .lengths .opened) (openAt (s .current) (s .used .opened) + length (openNew (s .current) (take (s .used .opened) (b .opened)) (oriented back n piece)))) _ (a3 .0) .1) in
     record {
       ready =
           record {
@@ -384,7 +381,7 @@ module _ (s : Store) (n : ℕ) (back : Bool) (piece opened : List ℕ) (a : Open
     unfolding badCounts openCount badCurrent badVertices
     counts-fine =
         let c = rw e at (a .current) in
-        let z : m ≡ 0 → ⊥ = eqb-false m 0 (none-left (eqb m 0) (ltb 16777215 m) c) in
+        let z : m ≡ 0 → ⊥ = eqb-false m 0 (or-none _ _ c .0) in
         let f : m + n - 1 ≤ 16777215 = rw e at (a .few) in
         let p = a .some in
         let y : n ≡ 0 → ⊥ = λ q. omega arith in
@@ -411,15 +408,12 @@ few-piece : (c : Current) (n : ℕ) → badCurrent c ≡ false → openCount c n
 unfolding badCurrent badVertices openCount
 few-piece Nothing n b h = h
 few-piece (Open m) n b h =
-    let z : m ≡ 0 → ⊥ = eqb-false m 0 (none-left (eqb m 0) (ltb 16777215 m) b) in
+    let z : m ≡ 0 → ⊥ = eqb-false m 0 (or-none _ _ b .0) in
     omega arith
 
 module _ (s : Store) (n : ℕ) (back : Bool) (piece opened held : List ℕ) (j : JoinReady s n back piece opened (length held)) where
   pub held-piece : (a : Answer) (held′ : List ℕ) → _≡_ {A = Answer × List ℕ} (a, held′) (orientInto piece n false held) → held′ ≡ over piece held
   held-piece a held′ e = ap (λ (y : Answer × List ℕ). y .1) (e ∙ oriented-into s n back piece opened (j .ready) false held (few-piece (s .current) n (j .ready .current) (j .ready .few)) (j .room))
-
-  pub count-small : (count : ℕ) → count ≡ openCount (s .current) n → count < 4294967296
-  count-small count e = let f = j .ready .few in omega arith
 
   pub joined-filed : (i k count : ℕ) (a : Answer) (opened′ held′ : List ℕ) (t : Told) → _≡_ {A = ℕ × List ℕ} (k, opened′) (openAfter s n back piece opened) → _≡_ {A = Answer × List ℕ} (a, held′) (orientInto piece n false held)
       → count ≡ openCount (s .current) n → t ≡ told (after s i (last.Join n back) count (joinUsed (s .used) k (length piece)) (Open count)) (answered.Done count)

@@ -1,44 +1,45 @@
 -- A join: its tests, and what ties the two stores after an accepted one.
-use Prim.Native.Nat.{ℕ, _+_, _-_, _≤_, _<_}
+use Prim.Native.Nat.{ℕ, _+_, _-_, _≤_}
 use mathlib.Core.Path.{_≡_, refl, sym, ap, _∙_}
 use mathlib.Core.Bool.{Bool, true, false, not, _||_}
 use mathlib.Core.List.{List, [], _∷_, _++_}
 use mathlib.Core.Option.{Option, some}
 use native.Mathlib.Omega.{arith}
 use native.Mathlib.Nat.{zero-add}
-use lib.ListN.{length, getD, take, length-append, length-map}
+use lib.ListN.{length, getD, take, length-append}
 use lib.Seq.{length-take-le}
 use lib.Dec.{ltb, eqb}
-use borrow.Author.Tests.{ltb-false, not-false, eqb-false}
+use borrow.Author.Tests.{ltb-false, not-false}
 use Rattle.base.specs.Answers.{done}
 use Rattle.base.specs.Tests.{_when_else_}
 use Rattle.base.specs.declared.Refusal.the-variants.{Coordinate, Junction, Runs, Vertices}
+use Rattle.base.proofs.Bools.{or-none}
 use Rattle.base.proofs.Parts.{length-over}
-use Rattle.codec.proofs.Laws.Cases.{table}
 use Rattle.runs.specs.Append.{appendix}
 use Rattle.runs.specs.Colours.{firstCoord, lastCoord}
 use Rattle.runs.specs.Orders.{sharp}
 use Rattle.runs.specs.Reverse.{oriented}
-use Rattle.runs.specs.Rotate.{runsAt}
 use Rattle.store.specs.Join.{joinFiledAt, joinPut, joinTest, openAt, openCount, openNew, openSpace, openTest}
-use Rattle.store.specs.Plain.{Plain, Unitig, accepted, effect, filed, join, joinTests, joined, newCount, parts, pieceOf, tests}
+use Rattle.store.specs.Plain.{Plain, Unitig, accepted, effect, join, joinTests, joined, newCount, parts, pieceOf, tests}
 use Rattle.store.specs.State.{Bufs, after}
 use Rattle.store.specs.Tests.{named}
 use Rattle.store.specs.declared.gate.Gate.{Gate}
 use Rattle.store.specs.declared.gate.Gate.the-variants.{Go, Refuse}
 use Rattle.store.specs.declared.state.Current.{Current}
 use Rattle.store.specs.declared.state.Store.{Store}
-use Rattle.store.proofs.Laws.Gates.{none-left, none-right, refuse-both, refuse-go}
+use Rattle.store.proofs.Laws.Gates.{refuse-both, refuse-go}
 use Rattle.store.proofs.Laws.Puts.{over-take, put-length, put-take}
 use Rattle.store.proofs.Laws.Rep.{Good, OpenRep, Rep, runsOfU}
-use Rattle.store.proofs.Laws.RunFacts.{RunFacts}
+use Rattle.store.proofs.Laws.Unitigs.{Told, first-of, join-told, last-of, piece-told, runs-long}
 use Rattle.store.proofs.Laws.Rep as rep
 
-pub runs-long : (u : Unitig) → length (runsOfU u) ≡ length (u .starts)
-unfolding runsAt
-runs-long u = length-map (u .starts) _
+-- a piece is no longer than what it makes
+pub few-of : {W k n used : ℕ} {c : Option Unitig} {o : Current} {runs : List ℕ} → OpenRep W k c o used runs → newCount c n ≤ 16777215 → n ≤ 16777215
+unfolding newCount
+few-of rep.closed h = h
+few-of (rep.opened {u} e g t) h = let v = g .vertices in omega arith
 
-module _ (F : RunFacts) (p : Plain) (s : Store) (b : Bufs) (r : Rep p s b) (n : ℕ) (back : Bool) (runs : List ℕ) where
+module _ (p : Plain) (s : Store) (b : Bufs) (r : Rep p s b) (n : ℕ) (back : Bool) (runs : List ℕ) where
   abbrev piece : Unitig
   piece = pieceOf n back runs
 
@@ -57,32 +58,27 @@ module _ (F : RunFacts) (p : Plain) (s : Store) (b : Bufs) (r : Rep p s b) (n : 
       go rep.closed = refl
       go (rep.opened e g t) = rw e
 
-  module _ (some-n : 0 < n) (small : newCount (p .current) n ≤ 16777215) (sh : sharp n runs ≡ true) (nm : named (p .W) (length (p .S)) runs ≡ true) where
-    few : {c : Option Unitig} {o : Current} → OpenRep (p .W) (length (p .S)) c o (s .used .opened) (b .opened) → newCount c n ≤ 16777215 → n ≤ 16777215
-    unfolding newCount
-    few rep.closed h = h
-    few (rep.opened {u} e g t) h = let v = g .vertices in omega arith
-
-    facts : Good (p .W) (length (p .S)) piece × (runsOfU piece ≡ oriented back n runs) × (length (piece .coords) ≡ n)
-    facts = F .piece (p .W) (length (p .S)) n back runs some-n (few (r .opened) small) sh nm
+  module _ (small : newCount (p .current) n ≤ 16777215) (sh : sharp n runs ≡ true) (nm : named (p .W) (length (p .S)) runs ≡ true) where
+    facts : Told (p .W) (length (p .S)) n (oriented back n runs) piece
+    facts = piece-told (p .W) (length (p .S)) n back runs (few-of (r .opened) small) sh nm
 
     joining : {c : Option Unitig} {o : Current} → OpenRep (p .W) (length (p .S)) c o (s .used .opened) (b .opened) → newCount c n ≤ 16777215 → parts c piece ≡ false → Joining c o
     unfolding newCount joined openCount openAt openNew
     joining rep.closed h e =
         record {
-          good = facts .0;
-          count = sym (facts .2);
-          tail = sym (facts .1);
-          long = zero-add _ ∙ ap length (sym (facts .1)) ∙ runs-long piece;
+          good = facts .good;
+          count = sym (facts .long);
+          tail = sym (facts .runs-are);
+          long = zero-add _ ∙ ap length (sym (facts .runs-are)) ∙ runs-long piece;
         }
     joining (rep.opened {u} {n = m} q g t) h e =
-        let h′ : length (u .coords) + length (piece .coords) - 1 ≤ 16777215 = omega (arith, facts .2) in
-        let j = F .join (p .W) (length (p .S)) u piece g (facts .0) e h′ in
-        let z : take (s .used .opened) (b .opened) ++ appendix (lastCoord (take (s .used .opened) (b .opened))) m (oriented back n runs) ≡ runsOfU (joined (some u) piece) = rw (t, q, ← facts .1) (sym (j .1)) in
+        let h′ : length (u .coords) + length (piece .coords) - 1 ≤ 16777215 = omega (arith, facts .long) in
+        let j = join-told (p .W) (length (p .S)) u piece g (facts .good) e h′ in
+        let z : take (s .used .opened) (b .opened) ++ appendix (lastCoord (take (s .used .opened) (b .opened))) m (oriented back n runs) ≡ runsOfU (joined (some u) piece) = rw (t, q, ← facts .runs-are) (sym (j .runs-are)) in
         let y : length (take (s .used .opened) (b .opened)) ≡ s .used .opened = length-take-le _ _ (r .openRoom) in
         record {
-          good = j .0;
-          count = omega (arith, q, facts .2, j .2);
+          good = j .good;
+          count = omega (arith, q, facts .long, j .long);
           tail = z;
           long =
               omega
@@ -96,8 +92,8 @@ module _ (F : RunFacts) (p : Plain) (s : Store) (b : Bufs) (r : Rep p s b) (n : 
     meets rep.closed h rest rest′ k = k (joining rep.closed h refl)
     meets (rep.opened {u} {n = m} q g t) h rest rest′ k =
         let a : sharp m (take (s .used .opened) (b .opened)) ≡ true = rw (t, q) (g .isSharp) in
-        let x : lastCoord (take (s .used .opened) (b .opened)) ≡ getD (u .coords) (length (u .coords) - 1) 0 = rw t (F .last _ _ u g) in
-        let y : firstCoord (oriented back n runs) ≡ getD (piece .coords) 0 0 = rw (← facts .1) (F .first _ _ piece (facts .0)) in
+        let x : lastCoord (take (s .used .opened) (b .opened)) ≡ getD (u .coords) (length (u .coords) - 1) 0 = rw t (last-of u g) in
+        let y : firstCoord (oriented back n runs) ≡ getD (piece .coords) 0 0 = rw (← facts .runs-are) (first-of piece (facts .good)) in
         rw (a, x, y)
         (refuse-both Junction (not (eqb (getD (u .coords) (length (u .coords) - 1) 0) (getD (piece .coords) 0 0))) rest rest′ (λ e. k (joining (rep.opened q g t) h e)))
 
@@ -108,10 +104,8 @@ module _ (F : RunFacts) (p : Plain) (s : Store) (b : Bufs) (r : Rep p s b) (n : 
       (refuse-both Vertices (eqb n 0 || ltb 16777215 (newCount (p .current) n)) _ _ (λ e7.
       refuse-both Runs (not (sharp n runs)) _ _ (λ e6.
       refuse-both Coordinate (not (named (p .W) (length (p .S)) runs)) _ _ (λ e9.
-      let z : n ≡ 0 → ⊥ = eqb-false n 0 (none-left (eqb n 0) _ e7) in
-      let y : 0 < n = omega arith in
-      let w : newCount (p .current) n ≤ 16777215 = ltb-false 16777215 _ (none-right (eqb n 0) _ e7) in
-      meets y w (not-false _ e6) (not-false _ e9) (r .opened) w _ _ (λ j.
+      let w : newCount (p .current) n ≤ 16777215 = ltb-false 16777215 _ (or-none (eqb n 0) _ e7 .1) in
+      meets w (not-false _ e6) (not-false _ e9) (r .opened) w _ _ (λ j.
       rw (j .long, r .lengths))))))
 
   module _ (i : ℕ) (e : tests p (join n back runs) ≡ Go) where
@@ -128,13 +122,11 @@ module _ (F : RunFacts) (p : Plain) (s : Store) (b : Bufs) (r : Rep p s b) (n : 
         let a9 = refuse-go _ _ _ (a6 .1) in
         let a8 = refuse-go _ _ _ (a9 .1) in
         let a3 = refuse-go _ _ _ (a8 .1) in
-        let z : n ≡ 0 → ⊥ = eqb-false n 0 (none-left (eqb n 0) (ltb 16777215 (newCount (p .current) n)) (a7 .0)) in
-        let y : 0 < n = omega arith in
-        let w : newCount (p .current) n ≤ 16777215 = ltb-false 16777215 _ (none-right (eqb n 0) (ltb 16777215 (newCount (p .current) n)) (a7 .0)) in
+        let w : newCount (p .current) n ≤ 16777215 = ltb-false 16777215 _ (or-none (eqb n 0) _ (a7 .0) .1) in
         record {
-          joins = joining y w (not-false _ (a6 .0)) (not-false _ (a9 .0)) (r .opened) w (a8 .0);
-          open-fits = ltb-false _ _ (none-left (ltb (p .lengths .opened) (length (joined (p .current) piece .starts))) (ltb (p .lengths .held) (length runs)) (a3 .0));
-          held-fits = ltb-false _ _ (none-right (ltb (p .lengths .opened) (length (joined (p .current) piece .starts))) (ltb (p .lengths .held) (length runs)) (a3 .0));
+          joins = joining w (not-false _ (a6 .0)) (not-false _ (a9 .0)) (r .opened) w (a8 .0);
+          open-fits = ltb-false _ _ (or-none _ _ (a3 .0) .0);
+          held-fits = ltb-false _ _ (or-none (ltb (p .lengths .opened) (length (joined (p .current) piece .starts))) _ (a3 .0) .1);
         }
 
     pub grown : Rep (accepted p i (join n back runs) (effect p (join n back runs))) (joinPut s b i n back runs .1) (joinPut s b i n back runs .2)

@@ -7,20 +7,18 @@ use mathlib.Core.Option.{Option, none, some}
 use native.Mathlib.Omega.{arith}
 use lib.ListN.{length, getD, take}
 use borrow.Author.Tests.{le-ltb, ne-eqb}
+use Rattle.base.proofs.All.{All}
 use Rattle.base.proofs.Bools.{or-false}
 use Rattle.codec.specs.Flat.{starts}
-use Rattle.codec.specs.Index.{entries}
 use Rattle.codec.specs.Records.{fileOf, recordOf}
-use Rattle.codec.proofs.Laws.Cases.{table}
 use Rattle.runs.specs.Colours.{colours}
 use Rattle.runs.specs.Orders.{sharp}
 use Rattle.runs.specs.Rotate.{runsAt}
-use Rattle.runs.specs.Words.{coordinateOf, offset}
-use Rattle.runs.proofs.Laws.Bytes.{room}
+use Rattle.runs.specs.Words.{coordinateOf, offset, placeOf, workerOf}
 use Rattle.store.specs.Gate.{altered, badCurrent, badVertices, overused, resized}
-use Rattle.store.specs.Plain.{Deed, Plain, Unitig, add, bytesOf, close, closedBytes, join, noUnitig}
+use Rattle.store.specs.Plain.{Deed, Plain, Unitig, add, bytesOf, close, closedBytes, join}
 use Rattle.store.specs.State.{Bufs, lengthsOf}
-use Rattle.store.specs.Tests.{aSet, badLengths, badLimits, named}
+use Rattle.store.specs.Tests.{aSet, badLengths, badLimits}
 use Rattle.store.specs.declared.state.Current.{Current}
 use Rattle.store.specs.declared.state.Current.the-variants.{Nothing, Open}
 use Rattle.store.specs.declared.state.Last.{Last}
@@ -34,14 +32,19 @@ use Rattle.store.specs.declared.state.Last.the-variants as last
 abbrev pub runsOfU : Unitig → List ℕ
 runsOfU u = runsAt (u .coords) (u .starts)
 
--- a unitig that its runs tell whole, each naming one of the sets
+-- a coordinate that names one of so many sets of this worker
+pub record Named (W sets coord : ℕ) : Type 0 where
+  pub own : workerOf coord ≡ W
+  pub low : placeOf coord < sets
+
+-- a unitig that its runs tell whole, each vertex naming one of the sets
 pub record Good (W sets : ℕ) (u : Unitig) : Type 0 where
   pub vertices : 0 < length (u .coords)
   pub few : length (u .coords) ≤ 16777215
   pub isSharp : sharp (length (u .coords)) (runsOfU u) ≡ true
   pub tell : colours (length (u .coords)) (runsOfU u) ≡ u .coords
   pub offsets : map offset (runsOfU u) ≡ u .starts
-  pub names : named W sets (runsOfU u) ≡ true
+  pub names : All (Named W sets) (u .coords)
 
 -- a buffer's length: given at start, and now
 pub record Size (given now : ℕ) : Type 0 where
@@ -56,6 +59,10 @@ pub record Sizes (l : Lengths) (b : Bufs) : Type 0 where
   pub runs : Size (l .runs) (length (b .runs))
   pub table : Size (l .table) (length (b .table))
 
+-- ids that may be added
+abbrev pub IsSet : ℕ → List ℕ → Type 0
+IsSet N ids = aSet N ids ≡ true
+
 -- the record file and its index
 pub record Filed (N : ℕ) (S : List (List ℕ)) (used sets : ℕ) (file index : List ℕ) : Type 0 where
   pub far : used ≡ length (fileOf N S)
@@ -64,7 +71,7 @@ pub record Filed (N : ℕ) (S : List (List ℕ)) (used sets : ℕ) (file index :
   pub entries : length S + 1 ≤ length index
   pub bytes : take (length (fileOf N S)) file ≡ fileOf N S
   pub places : take (length S + 1) index ≡ starts (recordOf N) 0 S
-  pub each : (k : ℕ) → k < length S → aSet N (getD S k []) ≡ true
+  pub each : All (IsSet N) S
 
 -- the run file and its table
 unfoldable pub tableOf : ℕ → List Unitig → List ℕ
@@ -78,7 +85,7 @@ pub record Closed (W sets : ℕ) (us : List Unitig) (used unitigs : ℕ) (file t
   pub pairs : 2 * length us ≤ length table
   pub bytes : take (length (closedBytes us)) file ≡ closedBytes us
   pub places : take (2 * length us) table ≡ tableOf 0 us
-  pub each : (k : ℕ) → k < length us → Good W sets (getD us k noUnitig)
+  pub each : All (Good W sets) us
 
 pub data OpenRep (W sets : ℕ) : Option Unitig → Current → ℕ → List ℕ → Type 0 where
   closed : {used : ℕ} {runs : List ℕ} → OpenRep W sets none Nothing used runs

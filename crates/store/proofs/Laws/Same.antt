@@ -6,17 +6,19 @@ use mathlib.Core.List.{List, [], _++_}
 use mathlib.Core.Option.{Option, some}
 use native.Mathlib.Omega.{arith}
 use native.Mathlib.Nat.{zero-add}
-use lib.ListN.{length, getD, take, drop, length-append, take-append-drop}
+use lib.ListN.{length, getD, take, drop}
 use lib.Seq.{getD-take}
 use lib.Dec.{ltb, leb, eqb}
 use borrow.Author.Tests.{lt-leb, le-ltb, eq-eqb, ltb-false}
 use Rattle.base.specs.Tests.{_when_else_}
 use Rattle.base.specs.declared.Refusal.the-variants.{Arguments}
+use Rattle.base.proofs.All.{All, all-at}
+use Rattle.base.proofs.Bools.{or-none}
 use Rattle.codec.specs.Flat.{flat, starts}
 use Rattle.codec.specs.Index.{entries, indexOf}
-use Rattle.codec.specs.Prefix.{prefixOf, readPrefix, whole}
 use Rattle.codec.specs.Records.{badColors, fileOf, readRecord, recordOf}
-use Rattle.runs.specs.Words.{coordinateOf, placeOf, workerOf}
+use Rattle.runs.specs.Words.{placeOf, workerOf}
+use Rattle.runs.proofs.Laws.Words.{place-of, worker-of}
 use Rattle.store.specs.Filed.{is, recordStart, setAt, setFrom, setIn, unnamed}
 use Rattle.store.specs.Gate.{gateThen, sameAdd, sameClose, sameJoin, sameLast, turnOf}
 use Rattle.store.specs.Plain.{Deed, Plain, add, again, close, gate, join, sameDeed, tests}
@@ -27,27 +29,19 @@ use Rattle.store.specs.declared.gate.Gate.the-variants.{Refuse}
 use Rattle.store.specs.declared.state.Last.{Last}
 use Rattle.store.specs.declared.state.Store.{Store}
 use Rattle.store.specs.declared.state.Way.{Way}
-use Rattle.store.proofs.Laws.Flats.{flat-append, from-start, start-at}
-use Rattle.store.proofs.Laws.Gates.{none-right}
-use Rattle.store.proofs.Laws.Rep.{CallRep, Rep, added, nothing, unaltered}
+use Rattle.store.proofs.Laws.Flats.{flat-take, from-start, start-at}
+use Rattle.store.proofs.Laws.Rep.{CallRep, IsSet, Rep, added, nothing, unaltered}
 use Rattle.codec.specs.Records as records
 use Rattle.store.proofs.Laws.Rep as rep
 
 -- the codec's promise, as the store cites it
 pub record Promise : Type 0 where
   pub read : (N W : ℕ) (ids rest : List ℕ) → badLimits N W ≡ false → aSet N ids ≡ true → readRecord N (recordOf N ids ++ rest) ≡ records.found ids rest
-  pub prefix : (n : ℕ) (rest : List ℕ) → n ≤ 4294967295 → readPrefix (prefixOf n ++ rest) ≡ whole n rest
-  pub index : (N W : ℕ) (S : List (List ℕ)) → badLimits N W ≡ false → ((k : ℕ) → k < length S → aSet N (getD S k []) ≡ true) → indexOf (length S) (fileOf N S) ≡ entries (starts (recordOf N) 0 S)
+  pub index : (N W : ℕ) (S : List (List ℕ)) → badLimits N W ≡ false → All (IsSet N) S → indexOf (length S) (fileOf N S) ≡ entries (starts (recordOf N) 0 S)
 
 pub small-worker : (N W : ℕ) → badLimits N W ≡ false → W ≤ 255
 unfolding badLimits
-small-worker N W e = ltb-false 255 W (none-right (badColors N) (ltb 255 W) e)
-
-worker-of : (W k : ℕ) → W ≤ 255 → workerOf (coordinateOf W k) ≡ W
-worker-of W k h = omega arith
-
-place-of : (W k : ℕ) → W ≤ 255 → placeOf (coordinateOf W k) ≡ k
-place-of W k h = omega arith
+small-worker N W e = ltb-false 255 W (or-none (badColors N) _ e .1)
 
 never : (a : ℕ) → repeated false a ≡ Refuse Arguments
 unfolding repeated _when_else_
@@ -76,12 +70,6 @@ module _ (P : Promise) (p : Plain) (s : Store) (b : Bufs) (r : Rep p s b) where
       ∙ start-at (recordOf (p .N)) 0 (p .S) k h
       ∙ zero-add _
 
-  entry-far : (k : ℕ) → length (flat (recordOf (p .N)) (take k (p .S))) ≤ length (fileOf (p .N) (p .S))
-  entry-far k =
-      let e : flat (recordOf (p .N)) (take k (p .S) ++ drop k (p .S)) ≡ fileOf (p .N) (p .S) = ap (flat (recordOf (p .N))) (take-append-drop k (p .S)) in
-      let f = flat-append (recordOf (p .N)) (take k (p .S)) (drop k (p .S)) in
-      omega (arith, simp length-append at (ap length (sym f ∙ e)))
-
   start-here : (coord : ℕ) → workerOf coord ≡ p .W → placeOf coord < length (p .S) → recordStart s (b .index) coord ≡ some (length (flat (recordOf (p .N)) (take (placeOf coord) (p .S))))
   unfolding recordStart unnamed _when_else_
   start-here coord e h =
@@ -91,7 +79,7 @@ module _ (P : Promise) (p : Plain) (s : Store) (b : Bufs) (r : Rep p s b) where
       let c : placeOf coord < s .used .sets = omega (arith, r .filed .many) in
       let t : leb (s .used .sets) (placeOf coord) ≡ false = lt-leb _ _ c in
       let u : s .used .records ≡ length (fileOf (p .N) (p .S)) = r .filed .far in
-      let f : ltb (length (fileOf (p .N) (p .S))) (length (flat (recordOf (p .N)) (take (placeOf coord) (p .S)))) ≡ false = le-ltb _ _ (entry-far (placeOf coord)) in
+      let f : ltb (length (fileOf (p .N) (p .S))) (length (flat (recordOf (p .N)) (take (placeOf coord) (p .S)))) ≡ false = le-ltb _ _ (flat-take (recordOf (p .N)) (p .S) (placeOf coord)) in
       rw (a, t, entry-at (placeOf coord) g, u, f)
 
   pub set-here : (coord : ℕ) → workerOf coord ≡ p .W → placeOf coord < length (p .S) → setAt s (b .records) (b .index) coord ≡ some (getD (p .S) (placeOf coord) [])
@@ -99,14 +87,14 @@ module _ (P : Promise) (p : Plain) (s : Store) (b : Bufs) (r : Rep p s b) where
   set-here coord e h =
       let k : ℕ = placeOf coord in
       let d = from-start (recordOf (p .N)) (p .S) (placeOf coord) [] h in
-      let x = P .read (p .N) (p .W) (getD (p .S) (placeOf coord) []) (flat (recordOf (p .N)) (drop (suc (placeOf coord)) (p .S))) (r .limits) (r .filed .each (placeOf coord) h) in
+      let x = P .read (p .N) (p .W) (getD (p .S) (placeOf coord) []) (flat (recordOf (p .N)) (drop (suc (placeOf coord)) (p .S))) (r .limits) (all-at (IsSet (p .N)) (p .S) (placeOf coord) [] h (r .filed .each)) in
       rw (start-here coord e h, r .colors, r .filed .far, r .filed .bytes, d, x)
 
   add-again : {c : Option (Deed × ℕ)} {l : Last} → CallRep (p .W) (p .S) c l (s .answer) (s .used .held) (b .held) → (js : List ℕ) → repeated (sameAdd s (b .records) (b .index) l js) (s .answer) ≡ again c (add js)
   unfolding sameAdd again sameDeed is
   add-again nothing js = never (s .answer)
   add-again (added k h e q) js =
-      let w : p .W ≤ 255 = small-worker (p .N) (p .W) (r .limits) in
+      let w : p .W < 256 = omega (arith, small-worker (p .N) (p .W) (r .limits)) in
       let u : workerOf (s .answer) ≡ p .W = ap (λ (c : ℕ). workerOf c) q ∙ worker-of (p .W) k w in
       let v : placeOf (s .answer) ≡ k = ap (λ (c : ℕ). placeOf c) q ∙ place-of (p .W) k w in
       let z : placeOf (s .answer) < length (p .S) = omega arith in

@@ -7,19 +7,18 @@ use mathlib.Core.Option.{Option, none, some}
 use native.Mathlib.Omega.{arith}
 use lib.ListN.{length, take, drop, getD}
 use lib.Dec.{leb}
-use borrow.Author.Tests.{lt-ltb, le-ltb, le-leb, lt-leb, leb-false, not-false, not-true}
+use borrow.Author.Tests.{lt-ltb, le-ltb, le-leb, lt-leb, eq-eqb, ne-eqb, leb-false, not-false, not-true}
 use Rattle.base.specs.Answers.{Answer, done, numberOf, ofGiven}
 use Rattle.base.specs.Parts.{over}
 use Rattle.base.specs.Tests.{_when_else_}
 use Rattle.base.specs.declared.Given.{Given}
 use Rattle.base.specs.declared.Refusal.{Refusal}
-use Rattle.base.specs.declared.Refusal.the-variants.{Altered, Arguments, Colors, Coordinate, Cut, Damaged, Ids, Junction, Number, Opened, Place, Runs, Space, Unopened, Vertices}
+use Rattle.base.specs.declared.Refusal.the-variants.{Damaged, Place, Space}
+use Rattle.base.proofs.Bools.{or-none}
 use Rattle.base.proofs.Tests.{when-no, when-yes}
 use Rattle.codec.specs.Records.{ReadRecord, badColors, readBy, readInto, readRecord}
-use Rattle.codec.proofs.Laws.Cases.{table}
 use Rattle.runs.specs.Bytes.{ReadRuns, colourIn, readRuns, sharpBytes, sharpIn}
 use Rattle.runs.specs.declared.bytes.Colored.{Colored}
-use Rattle.runs.proofs.Laws.Orders.{taken}
 use Rattle.store.specs.Filed.{ofFound, recordStart, setFrom, setIn}
 use Rattle.store.specs.Gate.{altered}
 use Rattle.store.specs.Show.{bySeek, coordFrom, coordIn, noPlace, ofColored, ofRead, seekBy, seekOf, showStep, shownBy, spaceOr, startAt, startBy, vertexSet, withState}
@@ -30,7 +29,6 @@ use Rattle.store.specs.declared.show.Seek.{Seek}
 use Rattle.store.specs.declared.show.Seek.the-variants.{Fail, Record}
 use Rattle.store.specs.declared.state.Store.{Store}
 use Rattle.store.proofs.Laws.Adding.{start-within}
-use Rattle.store.proofs.Laws.Gates.{none-left}
 use Rattle.store.proofs.Laws.Parts.{part-is}
 use Rattle.base.specs.Answers as answer
 use Rattle.store.specs.declared.state.Answer.the-variants as answered
@@ -86,7 +84,7 @@ place-vertex s table u v h = rw (lt-leb _ _ h)
 
 pub place-counted : (r : Bool) (s : Store) (table : List ℕ) (u v : ℕ) → r ≡ noPlace s table u v → r ≡ false → u < s .used .unitigs
 unfolding noPlace
-place-counted r s table u v e h = leb-false _ _ (none-left (leb (s .used .unitigs) u) _ (sym e ∙ h))
+place-counted r s table u v e h = leb-false _ _ (or-none _ _ (sym e ∙ h) .0)
 
 pub start-uncolored : (c : Colored) (r : Refusal) (s : Store) (index : List ℕ) (o : Option ℕ) → ofColored c ≡ o → c ≡ colored.Refused r → none ≡ startBy s index o
 unfolding startBy
@@ -135,38 +133,18 @@ record-in k at s index runs table u v e h =
 -- ---- the record is read
 
 space-is : (r : Refusal) → numberOf r ≡ 3 → spaceOr r ≡ Space
-space-is Space e = refl
-space-is Colors e = absurd (omega arith)
-space-is Ids e = absurd (omega arith)
-space-is Cut e = absurd (omega arith)
-space-is Damaged e = absurd (omega arith)
-space-is Runs e = absurd (omega arith)
-space-is Vertices e = absurd (omega arith)
-space-is Junction e = absurd (omega arith)
-space-is Coordinate e = absurd (omega arith)
-space-is Number e = absurd (omega arith)
-space-is Arguments e = absurd (omega arith)
-space-is Opened e = absurd (omega arith)
-space-is Unopened e = absurd (omega arith)
-space-is Place e = absurd (omega arith)
-space-is Altered e = absurd (omega arith)
+unfolding spaceOr
+space-is r e = when-yes _ _ _ (eq-eqb (numberOf r) 3 e)
 
 damage-is : (r : Refusal) → (numberOf r ≡ 3 → ⊥) → spaceOr r ≡ Damaged
-damage-is Space n = absurd (n refl)
-damage-is Colors n = refl
-damage-is Ids n = refl
-damage-is Cut n = refl
-damage-is Damaged n = refl
-damage-is Runs n = refl
-damage-is Vertices n = refl
-damage-is Junction n = refl
-damage-is Coordinate n = refl
-damage-is Number n = refl
-damage-is Arguments n = refl
-damage-is Opened n = refl
-damage-is Unopened n = refl
-damage-is Place n = refl
-damage-is Altered n = refl
+unfolding spaceOr
+damage-is r n = when-no _ _ _ (ne-eqb (numberOf r) 3 n)
+
+pub space-kept : (k : ℕ) (r : Refusal) → k ≡ numberOf r → k ≡ 3 → Space ≡ spaceOr r
+space-kept k r e h = sym (space-is r (sym e ∙ h))
+
+pub space-not : (k : ℕ) (r : Refusal) → k ≡ numberOf r → (k ≡ 3 → ⊥) → Damaged ≡ spaceOr r
+space-not k r e n = sym (damage-is r (λ q. n (e ∙ q)))
 
 read-space : (g : Given) → ofGiven g ≡ answer.refused 3 → ofAnswer (ofRead g) ≡ answer.refused 3
 read-space (given.Done items bytes) e = let z : _≡_ {A = ℕ} 0 1 = cc in absurd (omega arith)

@@ -2,41 +2,45 @@
 use Prim.Native.Nat.{ℕ, suc, _+_, _*_, _≤_, _<_}
 use mathlib.Core.Path.{_≡_, refl, sym, ap, _∙_}
 use mathlib.Core.Bool.{Bool, true, false, _||_}
-use mathlib.Core.List.{List, [], _∷_, _++_}
+use mathlib.Core.List.{List, [], _∷_}
 use mathlib.Core.Option.{some}
 use native.Mathlib.Omega.{arith}
 use native.Mathlib.Nat.{zero-add}
 use native.Mathlib.Numerals.{add-one}
-use lib.ListN.{length, getD, take, drop, length-append, take-append-drop}
+use lib.ListN.{length, getD, take, drop}
 use lib.Seq.{getD-take}
 use lib.Dec.{ltb, leb}
 use borrow.Author.Tests.{le-ltb, leb-false}
 use Rattle.base.specs.Answers.{done}
 use Rattle.base.specs.Parts.{over}
 use Rattle.base.specs.Tests.{_when_else_}
+use Rattle.base.proofs.All.{all-at}
 use Rattle.codec.specs.Flat.{flat}
 use Rattle.runs.specs.Colours.{colourAt}
 use Rattle.store.specs.Demand.{filedRuns, leaves, look, looked}
 use Rattle.store.specs.Filed.{setAt}
-use Rattle.store.specs.Plain.{Plain, Unitig, bytesOf, closedBytes, coordAt, idsAt, noUnitig, noVertex, plainShow, refused, shown}
+use Rattle.store.specs.Plain.{Plain, Unitig, bytesOf, coordAt, idsAt, noUnitig, noVertex, plainShow, refused, shown}
 use Rattle.store.specs.Show.{coordFrom, coordIn, noPlace, showStep, shownBy, startBy, vertexSet}
 use Rattle.store.specs.State.{Bufs}
 use Rattle.store.specs.declared.state.Store.{Store}
-use Rattle.store.proofs.Laws.Flats.{flat-append, from-start}
-use Rattle.store.proofs.Laws.Rep.{Rep, runsOfU, tableOf, unaltered}
-use Rattle.store.proofs.Laws.RunFacts.{RunFacts}
-use Rattle.store.proofs.Laws.Same.{Promise, set-here, small-worker}
+use Rattle.store.proofs.Laws.Flats.{flat-take, from-start}
+use Rattle.store.proofs.Laws.Rep.{Good, Rep, runsOfU, tableOf, unaltered}
+use Rattle.store.proofs.Laws.Same.{Promise, set-here}
 use Rattle.store.proofs.Laws.Table.{count-at-table, start-at-table}
+use Rattle.store.proofs.Laws.Unitigs.{colour-of, name-of, read-of}
 use Rattle.base.specs.Answers as answer
 use Rattle.runs.specs.Bytes as bytes
 
-module _ (P : Promise) (F : RunFacts) (p : Plain) (s : Store) (b : Bufs) (r : Rep p s b) where
+module _ (P : Promise) (p : Plain) (s : Store) (b : Bufs) (r : Rep p s b) where
   table-at : (k : ℕ) → k < 2 * length (p .closed) → getD (b .table) k 0 ≡ getD (tableOf 0 (p .closed)) k 0
   table-at k h = sym (getD-take (2 * length (p .closed)) (b .table) k 0 h) ∙ ap (λ (l : List ℕ). getD l k 0) (r .closed .places)
 
   module _ (k : ℕ) (h : k < length (p .closed)) where
     abbrev here : Unitig
     here = getD (p .closed) k noUnitig
+
+    good : Good (p .W) (length (p .S)) here
+    good = all-at (Good (p .W) (length (p .S))) (p .closed) k noUnitig h (r .closed .each)
 
     start-is : getD (b .table) (2 * k) 0 ≡ length (flat bytesOf (take k (p .closed)))
     start-is =
@@ -48,40 +52,29 @@ module _ (P : Promise) (F : RunFacts) (p : Plain) (s : Store) (b : Bufs) (r : Re
         let g : suc (2 * k) < 2 * length (p .closed) = omega arith in
         rw (add-one (2 * k)) (table-at (suc (2 * k)) g ∙ count-at-table 0 (p .closed) k h)
 
-    far : length (flat bytesOf (take k (p .closed))) ≤ length (closedBytes (p .closed))
-    far =
-        let e : flat bytesOf (take k (p .closed) ++ drop k (p .closed)) ≡ closedBytes (p .closed) = ap (flat bytesOf) (take-append-drop k (p .closed)) in
-        let f = flat-append bytesOf (take k (p .closed)) (drop k (p .closed)) in
-        omega (arith, simp length-append at (ap length (sym f ∙ e)))
-
     -- what is filed for it reads back
     pub filed-are : filedRuns s b k ≡ bytes.found (runsOfU here) (flat bytesOf (drop (suc k) (p .closed)))
     filed-are =
-        let g = r .closed .each k h in
-        let w : p .W ≤ 255 = small-worker (p .N) (p .W) (r .limits) in
         let z = r .sizes .index in
         let f = r .filed in
         let n : length (p .S) ≤ 4294967295 = omega arith in
         let d = from-start bytesOf (p .closed) k noUnitig h in
-        let x = F .read (p .W) (length (p .S)) here (flat bytesOf (drop (suc k) (p .closed))) w n g in
+        let x = read-of here good (flat bytesOf (drop (suc k) (p .closed))) n in
         rw (start-is, r .closed .far, r .closed .bytes, d, x)
 
     coord-is : (v : ℕ) → coordFrom s (b .runs) (getD (b .table) (2 * k) 0) (getD (b .table) (2 * k + 1) 0) v ≡ some (colourAt v (runsOfU here))
     unfolding coordFrom coordIn _when_else_
     coord-is v =
-        let g = r .closed .each k h in
-        let t1 : ltb 16777215 (length (here .coords)) ≡ false = le-ltb _ _ (g .few) in
-        let low : getD (b .table) (2 * k) 0 ≤ s .used .runs = rw (start-is, r .closed .far) far in
+        let t1 : ltb 16777215 (length (here .coords)) ≡ false = le-ltb _ _ (good .few) in
+        let low : getD (b .table) (2 * k) 0 ≤ s .used .runs = rw (start-is, r .closed .far) (flat-take bytesOf (p .closed) k) in
         let t2 : ltb (s .used .runs) (getD (b .table) (2 * k) 0) ≡ false = le-ltb _ _ low in
-        rw (filed-are, count-is, t1, t2, g .isSharp)
+        rw (filed-are, count-is, t1, t2, good .isSharp)
 
     set-is : (v : ℕ) → v < length (here .coords) → vertexSet s b k v ≡ some (idsAt p k v)
     unfolding vertexSet startBy idsAt coordAt setAt
     set-is v l =
-        let g = r .closed .each k h in
-        let a = F .at (p .W) (length (p .S)) here g v l in
-        let n = F .named (p .W) (length (p .S)) here g v l in
-        rw (coord-is v, a) (set-here P p s b r (getD (here .coords) v 0) (n .0) (n .1))
+        let n = name-of here good v l in
+        rw (coord-is v, colour-of here good v l) (set-here P p s b r (getD (here .coords) v 0) (n .own) (n .low))
 
   shown-is : (ids out : List ℕ) (k v : ℕ) → looked s b (shownBy (some ids) out) ≡ (leaves (look k v out) (_when_else_ (refused 3) (ltb (length out) (length ids)) (shown ids)), s, b)
   unfolding shownBy leaves _when_else_

@@ -1,18 +1,14 @@
 -- One unitig more in the run file and its table.
 use Prim.Native.Nat.{ℕ, zero, suc, _+_, _*_, _≤_, _<_}
 use mathlib.Core.Path.{_≡_, refl, sym, ap, _∙_}
-use mathlib.Core.Bool.{Bool, true, false}
 use mathlib.Core.List.{List, [], _∷_, _++_, append-assoc}
 use native.Mathlib.Omega.{arith}
 use native.Mathlib.Nat.{zero-add, add-zero}
 use native.Mathlib.Numerals.{add-one}
-use lib.ListN.{length, getD, take, set, length-append, length-set, List·getD-append}
-use lib.Seq.{take-suc-set, getD-append-seam}
-use lib.Dec.{ltb}
-use borrow.Author.Tests.{ltb-false, ltb-true}
+use lib.ListN.{length, getD, take, set, length-append, length-set}
+use lib.Seq.{take-suc-set}
+use Rattle.base.proofs.All.{all-append}
 use Rattle.codec.specs.Flat.{flat}
-use Rattle.codec.proofs.Laws.Cases.{table}
-use Rattle.runs.proofs.Laws.Bytes.{room}
 use Rattle.store.specs.Plain.{Unitig, bytesOf, closedBytes, noUnitig}
 use Rattle.store.specs.State.{put}
 use Rattle.store.proofs.Laws.Flats.{flat-more}
@@ -41,18 +37,6 @@ module _ {W sets : ℕ} {us : List Unitig} {used unitigs : ℕ} {file table : Li
   long-us : length (us ++ (v ∷ [])) ≡ length us + 1
   long-us = length-append us (v ∷ [])
 
-  each-unitig : (k : ℕ) → k < length (us ++ (v ∷ [])) → Good W sets (getD (us ++ (v ∷ [])) k noUnitig)
-  each-unitig k h = go (ltb k (length us)) refl
-    where
-      go : (t : Bool) → ltb k (length us) ≡ t → Good W sets (getD (us ++ (v ∷ [])) k noUnitig)
-      go true e =
-          let g : k < length us = ltb-true _ _ e in
-          rw (List·getD-append us (v ∷ []) noUnitig k g) (c .each k g)
-      go false e =
-          let g : length us ≤ k = ltb-false _ _ e in
-          let q : k ≡ length us = omega (arith, long-us) in
-          rw (q, getD-append-seam us v [] noUnitig) ok
-
   pub closed-one : Closed W sets (us ++ (v ∷ [])) (used + length (bytesOf v)) (unitigs + 1) (put used (bytesOf v) file) (set (set table (2 * unitigs) used) (2 * unitigs + 1) (length (v .coords)))
   closed-one =
       let u : used ≡ length (closedBytes us) = c .far in
@@ -69,7 +53,7 @@ module _ {W sets : ℕ} {us : List Unitig} {used unitigs : ℕ} {file table : Li
         places =
             rw (long-us, tw, m, two-more table (2 * length us) used (length (v .coords)) pair, u, c .places)
             (sym (table-more 0 us v ∙ ap (λ (n : ℕ). tableOf 0 us ++ (n ∷ length (v .coords) ∷ [])) (zero-add (length (closedBytes us)))));
-        each = each-unitig;
+        each = all-append (Good W sets) us (v ∷ []) (c .each) (ok, tt);
       }
 
 -- the table's two numbers of unitig k

@@ -6,15 +6,15 @@ use mathlib.Core.List.{List, [], _∷_}
 use mathlib.Core.Option.{Option, none, some}
 use native.Mathlib.Omega.{arith}
 use lib.ListN.{set}
-use lib.Dec.{ltb, eqb}
+use lib.Dec.{eqb}
 use borrow.Author.Tests.{eq-eqb, ne-eqb, eqb-true, not-false, ltb-false, eqb-false}
 use Rattle.base.specs.Answers.{Answer, done, numberOf}
 use Rattle.base.specs.Tests.{_when_else_}
 use Rattle.base.specs.declared.Refusal.{Refusal}
 use Rattle.base.specs.declared.Refusal.the-variants.{Altered, Number}
+use Rattle.base.proofs.Bools.{or-left, or-none, or-right, via}
 use Rattle.base.proofs.Tests.{when-yes}
 use Rattle.codec.specs.Records.{badColors}
-use Rattle.codec.proofs.Laws.Cases.{table}
 use Rattle.store.specs.Gate.{Sound, altered, badCurrent, badVertices, byGate, gateThen, overused, resized, sameLast, turnOf}
 use Rattle.store.specs.Plain.{Deed}
 use Rattle.store.specs.Start.{fresh, startStep}
@@ -29,8 +29,7 @@ use Rattle.store.specs.declared.state.Current.the-variants.{Nothing, Ope
 use Rattle.store.specs.declared.state.Lengths.{Lengths}
 use Rattle.store.specs.declared.state.Store.{Store}
 use Rattle.store.specs.declared.state.Used.{Used}
-use Rattle.store.proofs.Laws.Gates.{none-five, none-left, none-seven, none-six, repeated-not-go, turn-go}
-use Rattle.store.proofs.Laws.Goods.{told}
+use Rattle.store.proofs.Laws.Gates.{none-five, none-seven, none-six, repeated-not-go, turn-go}
 use Rattle.base.specs.Answers as answer
 
 -- ---- an open unitig
@@ -47,46 +46,25 @@ pub ruleset currents = (current-open, current-none)
 
 -- ---- 15
 
-yes-1 : (a b c d e : Bool) → a ≡ true → true ≡ (a || b || c || d || e)
-yes-1 a b c d e h = rw h
-
-yes-2 : (a b c d e : Bool) → b ≡ true → true ≡ (a || b || c || d || e)
-yes-2 true b c d e h = refl
-yes-2 false b c d e h = rw h
-
-yes-3 : (a b c d e : Bool) → c ≡ true → true ≡ (a || b || c || d || e)
-yes-3 a b c d e h = go (a || b)
-  where
-    go : (t : Bool) → true ≡ (t || c || d || e)
-    go true = refl
-    go false = rw h
-
-yes-4 : (a b c d e : Bool) → d ≡ true → true ≡ (a || b || c || d || e)
-yes-4 a b c d e h = go (a || b || c)
-  where
-    go : (t : Bool) → true ≡ (t || d || e)
-    go true = refl
-    go false = rw h
-
 pub altered-size : (r : Bool) (s : Store) (l : Lengths) → r ≡ resized (s .lengths) l → r ≡ true → true ≡ altered s l
 unfolding altered
-altered-size r s l e h = yes-1 (resized (s .lengths) l) (overused (s .lengths) (s .used)) (badLimits (s .colors) (s .worker)) (badLengths l) (badCurrent (s .current)) (sym e ∙ h)
+altered-size r s l e h = sym (or-left _ _ (or-left _ _ (or-left _ _ (or-left _ _ (via e h)))))
 
 pub altered-used : (r : Bool) (s : Store) (l : Lengths) → r ≡ overused (s .lengths) (s .used) → r ≡ true → true ≡ altered s l
 unfolding altered
-altered-used r s l e h = yes-2 (resized (s .lengths) l) (overused (s .lengths) (s .used)) (badLimits (s .colors) (s .worker)) (badLengths l) (badCurrent (s .current)) (sym e ∙ h)
+altered-used r s l e h = sym (or-left _ _ (or-left _ _ (or-left _ _ (or-right (resized (s .lengths) l) _ (via e h)))))
 
 pub altered-limits : (r : Bool) (s : Store) (l : Lengths) → r ≡ badLimits (s .colors) (s .worker) → r ≡ true → true ≡ altered s l
 unfolding altered
-altered-limits r s l e h = yes-3 (resized (s .lengths) l) (overused (s .lengths) (s .used)) (badLimits (s .colors) (s .worker)) (badLengths l) (badCurrent (s .current)) (sym e ∙ h)
+altered-limits r s l e h = sym (or-left _ _ (or-left _ _ (or-right (resized (s .lengths) l || overused (s .lengths) (s .used)) _ (via e h))))
 
 pub altered-lengths : (r : Bool) (s : Store) (l : Lengths) → r ≡ badLengths l → r ≡ true → true ≡ altered s l
 unfolding altered
-altered-lengths r s l e h = yes-4 (resized (s .lengths) l) (overused (s .lengths) (s .used)) (badLimits (s .colors) (s .worker)) (badLengths l) (badCurrent (s .current)) (sym e ∙ h)
+altered-lengths r s l e h = sym (or-left _ _ (or-right (resized (s .lengths) l || overused (s .lengths) (s .used) || badLimits (s .colors) (s .worker)) _ (via e h)))
 
 pub altered-last : (r₁ r₂ r₃ r₄ r : Bool) (s : Store) (l : Lengths) → r₁ ≡ resized (s .lengths) l → r₁ ≡ false → r₂ ≡ overused (s .lengths) (s .used) → r₂ ≡ false → r₃ ≡ badLimits (s .colors) (s .worker) → r₃ ≡ false → r₄ ≡ badLengths l → r₄ ≡ false → r ≡ badCurrent (s .current) → r ≡ altered s l
 unfolding altered
-altered-last r₁ r₂ r₃ r₄ r s l e₁ h₁ e₂ h₂ e₃ h₃ e₄ h₄ e = rw (sym e₁ ∙ h₁, sym e₂ ∙ h₂, sym e₃ ∙ h₃, sym e₄ ∙ h₄) e
+altered-last r₁ r₂ r₃ r₄ r s l e₁ h₁ e₂ h₂ e₃ h₃ e₄ h₄ e = rw (via e₁ h₁, via e₂ h₂, via e₃ h₃, via e₄ h₄) e
 
 pub ruleset alters = (altered-size, altered-used, altered-limits, altered-lengths, altered-last)
 
@@ -167,7 +145,7 @@ lengths-equal a b x y z u v w = all-equal _ _ _ _ _ _ _ _ _ _ _ _ (sym x) (sym y
 same-lengths : (told now : Lengths) → resized told now ≡ false → told ≡ now
 unfolding resized
 same-lengths told now e =
-    let s = none-six (not (eqb (now .records) (told .records))) (not (eqb (now .index) (told .index))) (not (eqb (now .opened) (told .opened))) (not (eqb (now .held) (told .held))) (not (eqb (now .runs) (told .runs))) (not (eqb (now .table) (told .table))) e in
+    let s = none-six _ _ _ _ _ _ e in
     lengths-equal told now (equal _ _ (s .0)) (equal _ _ (s .1)) (equal _ _ (s .2)) (equal _ _ (s .3)) (equal _ _ (s .4)) (equal _ _ (s .5))
 
 record Fits (l : Lengths) (u : Used) : Type 0 where
@@ -181,7 +159,7 @@ record Fits (l : Lengths) (u : Used) : Type 0 where
 fits : (l : Lengths) (u : Used) → overused l u ≡ false → Fits l u
 unfolding overused
 fits l u e =
-    let s = none-six (ltb (l .records) (u .records)) (ltb (l .index) (u .sets + 1)) (ltb (l .opened) (u .opened)) (ltb (l .held) (u .held)) (ltb (l .runs) (u .runs)) (ltb (l .table) (2 * u .unitigs)) e in
+    let s = none-six _ _ _ _ _ _ e in
     record {
       records = ltb-false _ _ (s .0);
       index = ltb-false _ _ (s .1);
@@ -191,7 +169,7 @@ fits l u e =
       table = ltb-false _ _ (s .5);
     }
 
-record Small (l : Lengths) : Type 0 where
+pub record Small (l : Lengths) : Type 0 where
   pub some : 0 < l .index
   pub records : l .records ≤ 4294967295
   pub index : l .index ≤ 4294967295
@@ -200,10 +178,10 @@ record Small (l : Lengths) : Type 0 where
   pub runs : l .runs ≤ 4294967295
   pub table : l .table ≤ 4294967295
 
-small : (l : Lengths) → badLengths l ≡ false → Small l
+pub small : (l : Lengths) → badLengths l ≡ false → Small l
 unfolding badLengths
 small l e =
-    let s = none-seven (eqb (l .index) 0) (ltb 4294967295 (l .records)) (ltb 4294967295 (l .index)) (ltb 4294967295 (l .opened)) (ltb 4294967295 (l .held)) (ltb 4294967295 (l .runs)) (ltb 4294967295 (l .table)) e in
+    let s = none-seven _ _ _ _ _ _ _ e in
     let z : l .index ≡ 0 → ⊥ = eqb-false _ _ (s .0) in
     record {
       some = omega arith;
@@ -220,12 +198,12 @@ some-entry r l e h = small l (sym e ∙ h) .some
 
 pub limits-colors : (N W : ℕ) → badLimits N W ≡ false → badColors N ≡ false
 unfolding badLimits
-limits-colors N W e = none-left _ _ e
+limits-colors N W e = or-none _ _ e .0
 
 pub sound : (s : Store) (l : Lengths) → altered s l ≡ false → Sound s l
 unfolding altered
 sound s l e =
-    let z = none-five (resized (s .lengths) l) (overused (s .lengths) (s .used)) (badLimits (s .colors) (s .worker)) (badLengths l) (badCurrent (s .current)) e in
+    let z = none-five _ _ _ _ _ e in
     let q : s .lengths ≡ l = same-lengths (s .lengths) l (z .0) in
     let f : Fits l (s .used) = fits l (s .used) (ap (λ (k : Lengths). overused k (s .used)) (sym q) ∙ z .1) in
     let m : Small l = small l (z .3) in

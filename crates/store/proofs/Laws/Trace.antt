@@ -4,7 +4,6 @@ use mathlib.Core.Path.{_≡_, refl, ap}
 use mathlib.Core.List.{List, [], _∷_, map}
 use mathlib.Core.Option.{Option, none, some}
 use Rattle.base.specs.Answers.{done}
-use Rattle.codec.specs.Records.{same}
 use Rattle.store.specs.Add.{addFiled, addPut, addStep, addTest}
 use Rattle.store.specs.Close.{closeFiledOf, closePut, closeStep, closeTest}
 use Rattle.store.specs.Demand.{Lent, Seen, codeDeed, codeRun, codeStep, heard, leaves, leavesAll, look, say, seen, sent}
@@ -20,7 +19,6 @@ use Rattle.store.proofs.Laws.Adds.{add-tests, gate-go}
 use Rattle.store.proofs.Laws.Closes.{close-tests}
 use Rattle.store.proofs.Laws.Joins.{join-tests}
 use Rattle.store.proofs.Laws.Rep.{Rep}
-use Rattle.store.proofs.Laws.RunFacts.{RunFacts}
 use Rattle.store.proofs.Laws.Same.{Promise, gates-agree}
 use Rattle.store.proofs.Laws.Shows.{show-ok}
 use Rattle.store.proofs.Laws.Adds as adds
@@ -32,7 +30,7 @@ pub record Okay (c : Lent) (x : Seen × Store × Bufs) (y : Reply × Plain) : Ty
   pub same : x .0 ≡ leaves c (y .0)
   pub rep : Rep (y .1) (x .1) (x .2)
 
-module _ (P : Promise) (F : RunFacts) (p : Plain) (s : Store) (b : Bufs) (r : Rep p s b) where
+module _ (P : Promise) (p : Plain) (s : Store) (b : Bufs) (r : Rep p s b) where
   -- a numbered call, by what its gate says
   by-gate : (i : ℕ) (d : Deed) (go : Outcome) (g : Gate)
       → (g ≡ Go → (go .0 ≡ done (effect p d .0 ∷ [])) × Rep (accepted p i d (effect p d)) (go .1) (go .2))
@@ -63,23 +61,23 @@ module _ (P : Promise) (F : RunFacts) (p : Plain) (s : Store) (b : Bufs) (r : Re
   deed-ok : (i : ℕ) (d : Deed) → Okay (say i d) (heard (codeDeed s b i d)) (plainDeed (gate p i d) p i d)
   unfolding codeDeed addStep joinStep closeStep
   deed-ok i (add ids) = by-tests i (add ids) (addPut s b i ids) (addTest s ids) (add-tests p s b r ids) (λ e. (add-answer i ids, adds.grown p s b r i ids e))
-  deed-ok i (join n back runs) = by-tests i (join n back runs) (joinPut s b i n back runs) (joinTest s (b .opened) n back runs) (join-tests F p s b r n back runs) (λ e. (joins.answered F p s b r n back runs i e, joins.grown F p s b r n back runs i e))
-  deed-ok i (close way) = by-tests i (close way) (closePut s b i way) (closeTest s (b .opened) way) (close-tests F p s b r way) (λ e. (close-answer i way, closes.grown F p s b r way i e))
+  deed-ok i (join n back runs) = by-tests i (join n back runs) (joinPut s b i n back runs) (joinTest s (b .opened) n back runs) (join-tests p s b r n back runs) (λ e. (joins.answered p s b r n back runs i e, joins.grown p s b r n back runs i e))
+  deed-ok i (close way) = by-tests i (close way) (closePut s b i way) (closeTest s (b .opened) way) (close-tests p s b r way) (λ e. (close-answer i way, closes.grown p s b r way i e))
 
   pub step-ok : (c : Lent) → Okay c (codeStep s b c) (plainStep p (sent c))
   unfolding codeStep plainStep sent
   step-ok (say i d) = deed-ok i d
-  step-ok (look k v out) = rw (show-ok P F p s b r k v out) (record { same = refl; rep = r })
+  step-ok (look k v out) = rw (show-ok P p s b r k v out) (record { same = refl; rep = r })
 
 pub record Ran (cs : List Lent) (x : List Seen × Store × Bufs) (y : List Reply × Plain) : Type 0 where
   pub answers : x .0 ≡ leavesAll cs (y .0)
   pub rep : Rep (y .1) (x .1) (x .2)
 
-module _ (P : Promise) (F : RunFacts) where
+module _ (P : Promise) where
   pub run-ok : (p : Plain) (s : Store) (b : Bufs) → Rep p s b → (cs : List Lent) → Ran cs (codeRun s b cs) (plainRun p (map sent cs))
   unfolding codeRun plainRun leavesAll
   run-ok p s b r [] = record { answers = refl; rep = r }
   run-ok p s b r (c ∷ cs) =
-      let k = step-ok P F p s b r c in
+      let k = step-ok P p s b r c in
       let t = run-ok (plainStep p (sent c) .1) (codeStep s b c .1) (codeStep s b c .2) (k .rep) cs in
       record { answers = rw (k .same, t .answers); rep = t .rep }

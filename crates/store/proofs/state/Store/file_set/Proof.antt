@@ -46,7 +46,7 @@ coordinate-of-requires : tie.Need-coordinate-of-requires
 coordinate-of-requires c κs = search needs
 
 add-t13 : tie.Need-add-t13
-add-t13 c = search (wrote-small)
+add-t13 c = search (needs, wrote-small)
 
 add-t23 : tie.Need-add-t23
 add-t23 c = search needs

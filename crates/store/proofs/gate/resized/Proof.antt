@@ -1,7 +1,7 @@
 use Rattle.store.specs.Gate.{resized}
 use Rattle.base.proofs.Tests.{tests}
-use Rattle.store.proofs.state.Store.resized.Statement.{statement}
-use Rattle.store.proofs.state.Store.resized.Tie as tie
+use Rattle.store.proofs.gate.resized.Statement.{statement}
+use Rattle.store.proofs.gate.resized.Tie as tie
 
 returns : tie.Need-returns
 unfolding resized

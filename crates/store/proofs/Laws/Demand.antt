@@ -1,4 +1,4 @@
--- DEMAND 3 and its corollary, of every list of calls after an accepted start.
+-- DEMAND 3 and its corollary, of every list of calls after an accepted start, from the codec's promise.
 use Prim.Native.Nat.{ℕ, _+_, _<_}
 use mathlib.Core.Path.{_≡_, refl, sym, ap, _∙_}
 use mathlib.Core.Bool.{Bool, true, false, _||_}
@@ -8,35 +8,32 @@ use native.Mathlib.Omega.{arith}
 use native.Mathlib.Nat.{zero-add}
 use lib.ListN.{length, getD, take, length-set, length-append, List·getD-append}
 use lib.Seq.{take-suc-set}
-use lib.Dec.{ltb, leb, eqb}
-use borrow.Author.Tests.{ltb-false, eqb-false, leb-false}
+use lib.Dec.{ltb, leb}
+use borrow.Author.Tests.{leb-false}
 use Rattle.base.specs.Answers.{Answer, done}
 use Rattle.base.specs.Parts.{over}
 use Rattle.base.specs.Tests.{_when_else_}
+use Rattle.base.proofs.All.{all-at}
 use Rattle.codec.specs.Flat.{flat, starts}
-use Rattle.codec.specs.Index.{entries}
 use Rattle.codec.specs.Records.{fileOf}
-use Rattle.codec.proofs.Laws.Cases.{table}
-use Rattle.runs.specs.Words.{coordinateOf, placeOf, workerOf}
-use Rattle.runs.proofs.Laws.Bytes.{room}
+use Rattle.runs.specs.Words.{coordinateOf, placeOf}
+use Rattle.runs.proofs.Laws.Words.{coordinate-of}
 use Rattle.store.specs.Demand.{DEMAND3, Demand3, EXACTLY-ONCE, Item, Lent, LinesSent, Seen, ShowsSent, acceptedFrom, codeRun, deedOf, deedsFrom, itemCall, leaves, leavesAll, lineRuns, look, seen, sent, setFor, setsIn}
-use Rattle.store.specs.Plain.{Call, Deed, Plain, Unitig, accepted, coordAt, deed, filed, gate, idsAt, noUnitig, noVertex, plainDeed, plainFresh, plainRun, plainShow, plainStep, refused, show, shown}
+use Rattle.store.specs.Plain.{Call, Deed, Plain, Unitig, accepted, coordAt, deed, gate, idsAt, noUnitig, noVertex, plainDeed, plainFresh, plainRun, plainShow, plainStep, refused, show, shown}
 use Rattle.store.specs.Start.{fresh, startStep, zeroed}
-use Rattle.store.specs.State.{Bufs, bufs, lengthsOf}
+use Rattle.store.specs.State.{Bufs, lengthsOf}
 use Rattle.store.specs.Tests.{badLengths, badLimits}
 use Rattle.store.specs.declared.gate.Gate.{Gate}
 use Rattle.store.specs.declared.gate.Gate.the-variants.{Again, Go, Refuse}
 use Rattle.store.specs.declared.state.Store.{Store}
 use Rattle.store.proofs.Laws.Accepted.{acc, first-run, once-run, sets-run}
-use Rattle.store.proofs.Laws.Gates.{none-seven}
-use Rattle.store.proofs.Laws.Goods.{unitig}
-use Rattle.store.proofs.Laws.Joins.{runs-long}
 use Rattle.store.proofs.Laws.Lines.{lined-run, startsOf}
-use Rattle.store.proofs.Laws.Rep.{Rep, runsOfU, tableOf}
-use Rattle.store.proofs.Laws.RunFacts.{RunFacts}
+use Rattle.store.proofs.Laws.Rep.{Good, Rep, runsOfU, tableOf}
 use Rattle.store.proofs.Laws.Same.{Promise}
 use Rattle.store.proofs.Laws.Shows.{filed-are}
+use Rattle.store.proofs.Laws.Tested.{small}
 use Rattle.store.proofs.Laws.Trace.{Ran, run-ok}
+use Rattle.store.proofs.Laws.Unitigs.{name-of, runs-long}
 use Rattle.base.specs.Answers as answer
 use Rattle.store.proofs.Laws.Rep as rep
 
@@ -44,22 +41,20 @@ use Rattle.store.proofs.Laws.Rep as rep
 
 module _ (N W : ℕ) (b : Bufs) (e : badLimits N W ≡ false) (l : badLengths (lengthsOf b) ≡ false) where
   fresh-ok : Rep (plainFresh N W (lengthsOf b)) (fresh N W (lengthsOf b)) (zeroed b)
-  unfolding plainFresh fresh flat starts tableOf badLengths
+  unfolding plainFresh fresh flat starts tableOf
   fresh-ok =
-      let x = none-seven (eqb (length (b .index)) 0) (ltb 4294967295 (length (b .records))) (ltb 4294967295 (length (b .index))) (ltb 4294967295 (length (b .opened))) (ltb 4294967295 (length (b .held))) (ltb 4294967295 (length (b .runs))) (ltb 4294967295 (length (b .table))) l in
-      let i0 : length (b .index) ≡ 0 → ⊥ = eqb-false _ _ (x .0) in
-      let some-index : 0 < length (b .index) = omega arith in
+      let m = small (lengthsOf b) l in
       let li = length-set (b .index) 0 0 in
       record {
         lengths = refl;
         sizes =
             record {
-              records = record { long = refl; small = ltb-false _ _ (x .1) };
-              index = record { long = li; small = ltb-false _ _ (x .2) };
-              opened = record { long = refl; small = ltb-false _ _ (x .3) };
-              held = record { long = refl; small = ltb-false _ _ (x .4) };
-              runs = record { long = refl; small = ltb-false _ _ (x .5) };
-              table = record { long = refl; small = ltb-false _ _ (x .6) };
+              records = record { long = refl; small = m .records };
+              index = record { long = li; small = m .index };
+              opened = record { long = refl; small = m .opened };
+              held = record { long = refl; small = m .held };
+              runs = record { long = refl; small = m .runs };
+              table = record { long = refl; small = m .table };
             };
         colors = refl;
         worker = refl;
@@ -70,10 +65,10 @@ module _ (N W : ℕ) (b : Bufs) (e : badLimits N W ≡ false) (l : badLengths (l
               far = refl;
               many = refl;
               room = omega arith;
-              entries = omega (arith, li);
+              entries = omega (arith, li, m .some);
               bytes = refl;
-              places = take-suc-set (b .index) 0 0 some-index;
-              each = λ k h. absurd (omega arith);
+              places = take-suc-set (b .index) 0 0 (m .some);
+              each = tt;
             };
         closed =
             record {
@@ -83,7 +78,7 @@ module _ (N W : ℕ) (b : Bufs) (e : badLimits N W ≡ false) (l : badLengths (l
               pairs = omega arith;
               bytes = refl;
               places = refl;
-              each = λ k h. absurd (omega arith);
+              each = tt;
             };
         opened = rep.closed;
         openRoom = omega arith;
@@ -142,9 +137,6 @@ unfolding plainRun leavesAll
 reply-at p [] c late x = refl
 reply-at p (a ∷ early) c late x = reply-at (plainStep p (sent a) .1) early c late x
 
-coord-is : (W coord : ℕ) → workerOf coord ≡ W → coordinateOf W (placeOf coord) ≡ coord
-coord-is W coord e = omega arith
-
 -- a show that is answered gives a vertex's ids
 record Given (p : Plain) (k v : ℕ) (out values : List ℕ) : Type 0 where
   pub unitig : k < length (p .closed)
@@ -176,14 +168,14 @@ shows-plain q k v out = refl
 
 -- ---- the corollary: losses, repeats and calls out of turn change nothing
 
-module _ (P : Promise) (F : RunFacts) where
+module _ (P : Promise) where
   once-fresh : (N W : ℕ) (b : Bufs) → badLimits N W ≡ false → badLengths (lengthsOf b) ≡ false → (deeds : ℕ → Deed) (items : List Item)
       → map deedOf (acceptedFrom 0 (map (itemCall deeds) items) (codeRun (fresh N W (lengthsOf b)) (zeroed b) (map (itemCall deeds) items) .0))
       ≡ deedsFrom deeds 1 (codeRun (fresh N W (lengthsOf b)) (zeroed b) (map (itemCall deeds) items) .1 .number)
   unfolding plainFresh
   once-fresh N W b x y deeds items =
       let cs : List Lent = map (itemCall deeds) items in
-      let k = run-ok P F (plainFresh N W (lengthsOf b)) (fresh N W (lengthsOf b)) (zeroed b) (fresh-ok N W b x y) cs in
+      let k = run-ok P (plainFresh N W (lengthsOf b)) (fresh N W (lengthsOf b)) (zeroed b) (fresh-ok N W b x y) cs in
       let o = once-run deeds items (plainFresh N W (lengthsOf b)) in
       rw (k .answers, k .rep .last, o .sum, zero-add (o .m)) (o .those)
 
@@ -199,7 +191,7 @@ module _ (P : Promise) (F : RunFacts) where
     p₀ = plainFresh N W (lengthsOf b)
 
     ran : (cs : List Lent) → Ran cs (codeRun (fresh N W (lengthsOf b)) (zeroed b) cs) (plainRun p₀ (map sent cs))
-    ran cs = run-ok P F p₀ (fresh N W (lengthsOf b)) (zeroed b) (fresh-ok N W b x y) cs
+    ran cs = run-ok P p₀ (fresh N W (lengthsOf b)) (zeroed b) (fresh-ok N W b x y) cs
 
     all-sets : plainRun p₀ (map sent calls) .1 .S ≡ setsIn (acc p₀ calls)
     unfolding plainFresh
@@ -217,19 +209,19 @@ module _ (P : Promise) (F : RunFacts) where
     sent-set early late k v out e h l =
         let q : Plain = plainRun p₀ (map sent early) .1 in
         let r = ran early .rep in
-        let good = r .closed .each k h in
+        let good = all-at (Good (q .W) (length (q .S))) (q .closed) k noUnitig h (r .closed .each) in
         let coord : ℕ = getD (getD (q .closed) k noUnitig .coords) v 0 in
-        let n = F .named (q .W) (length (q .S)) (getD (q .closed) k noUnitig) good v l in
+        let n = name-of (getD (q .closed) k noUnitig) good v l in
         let w : q .W ≡ W = kept p₀ (map sent early) .1 in
-        let c : coordinateOf W (placeOf coord) ≡ coord = coord-is W coord (n .0 ∙ w) in
+        let c : coordinateOf W (placeOf coord) ≡ coord = ap (λ (x : ℕ). coordinateOf x (placeOf coord)) (sym (n .own ∙ w)) ∙ coordinate-of coord in
         let more : List (List ℕ) = setsIn (acc q (look k v out ∷ late)) in
         let final : setsIn (acc p₀ calls) ≡ q .S ++ more =
         sym all-sets ∙ ap (λ (cs : List Lent). plainRun p₀ (map sent cs) .1 .S) e ∙ ap (λ (z : Plain). z .S) (run-append p₀ early (look k v out ∷ late)) ∙ sets-run q (look k v out ∷ late)
         in
-        let m : placeOf coord < length (setsIn (acc p₀ calls)) = omega (arith, n .1, ap length final, length-append (q .S) more) in
+        let m : placeOf coord < length (setsIn (acc p₀ calls)) = omega (arith, n .low, ap length final, length-append (q .S) more) in
         let x : setFor (coordinateOf W (0 + placeOf coord)) (acc p₀ calls) ≡ some (getD (setsIn (acc p₀ calls)) (placeOf coord) []) = first-run p₀ calls (placeOf coord) m in
         let y : getD (setsIn (acc p₀ calls)) (placeOf coord) [] ≡ getD (q .S) (placeOf coord) [] =
-        ap (λ (z : List (List ℕ)). getD z (placeOf coord) []) final ∙ List·getD-append (q .S) more [] (placeOf coord) (n .1)
+        ap (λ (z : List (List ℕ)). getD z (placeOf coord) []) final ∙ List·getD-append (q .S) more [] (placeOf coord) (n .low)
         in
         ap (λ (z : ℕ). setFor z (acc p₀ calls)) (sym c ∙ ap (coordinateOf W) (sym (zero-add (placeOf coord)))) ∙ x ∙ ap some y
 
@@ -258,14 +250,14 @@ module _ (P : Promise) (F : RunFacts) where
     lines k count e =
         let r = ran calls .rep in
         let acc-is : acceptedFrom 0 calls (codeRun (fresh N W (lengthsOf b)) (zeroed b) calls .0) ≡ acc p₀ calls = ap (acceptedFrom 0 calls) (ran calls .answers) in
-        let d = lined-run P F p₀ (fresh N W (lengthsOf b)) (zeroed b) (fresh-ok N W b x y) calls in
+        let d = lined-run P p₀ (fresh N W (lengthsOf b)) (zeroed b) (fresh-ok N W b x y) calls in
         let q : plainRun p₀ (map sent calls) .1 .closed ≡ d .more = d .are in
         let h = d .counts k count (ap (λ (ds : List (ℕ × Deed)). getD (lineRuns none ds) k none) (sym acc-is) ∙ e) in
         let l : k < length (plainRun p₀ (map sent calls) .1 .closed) = omega (arith, h .0, ap length q) in
         let u : Unitig = getD (plainRun p₀ (map sent calls) .1 .closed) k noUnitig in (
           runsOfU u,
           _,
-          filed-are P F (plainRun p₀ (map sent calls) .1) _ _ r k l,
+          filed-are P (plainRun p₀ (map sent calls) .1) _ _ r k l,
           runs-long u ∙ ap (λ (us : List Unitig). length (getD us k noUnitig .starts)) q ∙ h .1,
         )
 

@@ -1,8 +1,8 @@
 use borrow.Author.Needs.{needs}
 use Rattle.store.specs.Gate.{overused}
 use Rattle.base.proofs.Tests.{tests}
-use Rattle.store.proofs.state.Store.overused.Statement.{statement}
-use Rattle.store.proofs.state.Store.overused.Tie as tie
+use Rattle.store.proofs.gate.overused.Statement.{statement}
+use Rattle.store.proofs.gate.overused.Tie as tie
 
 cast-sets : tie.Need-cast-sets
 cast-sets c = search needs
