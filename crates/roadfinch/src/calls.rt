@@ -1,9 +1,16 @@
 // The numbered calls and show: words to arguments, arguments to the store.
+use crate::buffers::File;
+use crate::buffers::Half;
+use crate::buffers::Ids;
+use crate::buffers::Words;
 use crate::parse;
 use crate::parse::Ended;
 use crate::parse::Numbered;
 use crate::parse::Piece;
-use base::Refusal;
+use crate::parse::Vertex;
+use crate::replies::Reply;
+use crate::replies::Said;
+use crate::replies::wrong;
 use shell::fields;
 use shell::lists;
 use shell::lists::Listed;
@@ -15,43 +22,19 @@ use store::state::Told;
 use store::state::Way;
 ghost use Prim.Native.Nat.{_≤_};
 
-// The store of this run: none before an accepted start.
-pub enum Session {
-    Nothing,
-    Kept(Store),
-}
-
-// What a line answers.
-pub enum Reply {
-    Done(u64),
-    Refused(Refusal),
-    Wrong(Fault),
-}
-
-pub struct Said {
-    pub session: Session,
-    pub reply: Reply,
-}
-
-fn wrong(session: Session, fault: Fault) -> Said {
-    Said {
-        session,
-        reply: Reply::Wrong(fault),
+fn reply_of(answer: Answer) -> Reply {
+    match answer {
+        Answer::Done(value) => Reply::Done(value),
+        Answer::Refused(r) => Reply::Refused(r),
     }
 }
 
 fn told(t: Told) -> Said {
     let store = t.store;
     let answer = t.answer;
-    match answer {
-        Answer::Done(value) => Said {
-            session: Session::Kept(store),
-            reply: Reply::Done(value),
-        },
-        Answer::Refused(r) => Said {
-            session: Session::Kept(store),
-            reply: Reply::Refused(r),
-        },
+    Said {
+        store,
+        reply: reply_of(answer),
     }
 }
 
@@ -64,22 +47,50 @@ fn least(a: usize, most: usize) -> usize
 
 // ---- start
 
-fn started(session: Session, s: Started) -> Said {
+fn started(store: Store, s: Started) -> Said {
     match s {
-        Started::Fresh(store) => Said {
-            session: Session::Kept(store),
+        Started::Fresh(fresh) => Said {
+            store: fresh,
             reply: Reply::Done(0),
         },
         Started::Refused(r) => Said {
-            session,
+            store,
             reply: Reply::Refused(r),
         },
     }
 }
 
+// Whether a length is above its buffer's.
+fn is_long(
+    args: &[u32],
+    records: usize,
+    index: usize,
+    opened: usize,
+    held: usize,
+    runs: usize,
+    table: usize,
+) -> bool {
+    if records < parse::entry(args, 2) {
+        return true;
+    }
+    if index < parse::entry(args, 3) {
+        return true;
+    }
+    if opened < parse::entry(args, 4) {
+        return true;
+    }
+    if held < parse::entry(args, 5) {
+        return true;
+    }
+    if runs < parse::entry(args, 6) {
+        return true;
+    }
+    table < parse::entry(args, 7)
+}
+
 // Eight numbers: N, W, and how many elements of each buffer are to be used.
 fn start_with(
-    session: Session,
+    store: Store,
     args: &[u32],
     records: &[u8],
     index: &mut [u64],
@@ -88,63 +99,50 @@ fn start_with(
     runs: &[u8],
     table: &[u64],
 ) -> Said {
-    let a = parse::entry(args, 2);
-    let b = parse::entry(args, 3);
-    let c = parse::entry(args, 4);
-    let d = parse::entry(args, 5);
-    let e = parse::entry(args, 6);
-    let f = parse::entry(args, 7);
-    if records.len() < a {
-        return wrong(session, Fault::Length);
+    if is_long(
+        args,
+        records.len(),
+        index.len(),
+        opened.len(),
+        held.len(),
+        runs.len(),
+        table.len(),
+    ) {
+        return wrong(store, Fault::Length);
     }
-    if index.len() < b {
-        return wrong(session, Fault::Length);
-    }
-    if opened.len() < c {
-        return wrong(session, Fault::Length);
-    }
-    if held.len() < d {
-        return wrong(session, Fault::Length);
-    }
-    if runs.len() < e {
-        return wrong(session, Fault::Length);
-    }
-    if table.len() < f {
-        return wrong(session, Fault::Length);
-    }
-    let m = least(b, index.len());
+    let b = least(parse::entry(args, 3), index.len());
     started(
-        session,
+        store,
         Store::start(
             parse::number(args, 0),
             parse::number(args, 1),
-            fields::part(records, 0, a),
-            &mut index[..m],
-            lists::front_runs(opened, c),
-            lists::front_runs(held, d),
-            fields::part(runs, 0, e),
-            lists::front_runs(table, f),
+            fields::part(records, 0, parse::entry(args, 2)),
+            &mut index[..b],
+            lists::front_runs(opened, parse::entry(args, 4)),
+            lists::front_runs(held, parse::entry(args, 5)),
+            fields::part(runs, 0, parse::entry(args, 6)),
+            lists::front_runs(table, parse::entry(args, 7)),
         ),
     )
 }
 
 // start N W RECORDS INDEX OPEN HELD RUNS TABLE
 pub(crate) fn start(
-    session: Session,
+    store: Store,
     words: &[u8],
     from: usize,
-    ids: &mut [u32],
-    records: &[u8],
-    index: &mut [u64],
-    opened: &[u64],
-    held: &[u64],
-    runs: &[u8],
-    table: &[u64],
+    ids: &mut Ids,
+    records: &File,
+    index: &mut Words,
+    opened: &Half,
+    held: &Half,
+    runs: &File,
+    table: &Half,
 ) -> Said {
     match parse::exactly(words, from, 8, ids) {
-        Listed::Wrong(f) => wrong(session, f),
+        Listed::Wrong(f) => wrong(store, f),
         Listed::Done(count) => start_with(
-            session,
+            store,
             lists::front(ids, count),
             records,
             index,
@@ -186,33 +184,30 @@ fn add_to(
 
 // add NUMBER ID..
 pub(crate) fn add(
-    session: Session,
+    store: Store,
     words: &[u8],
     from: usize,
-    ids: &mut [u32],
-    records: &mut [u8],
-    index: &mut [u64],
-    opened: &[u64],
-    held: &[u64],
-    runs: &[u8],
-    table: &[u64],
+    ids: &mut Ids,
+    records: &mut File,
+    index: &mut Words,
+    opened: &Half,
+    held: &Half,
+    runs: &File,
+    table: &Half,
 ) -> Said {
-    match session {
-        Session::Nothing => wrong(session, Fault::Unstarted),
-        Session::Kept(store) => match parse::numbered_ids(words, from, ids) {
-            Numbered::Wrong(f) => wrong(session, f),
-            Numbered::Done { number, count } => told(add_to(
-                store,
-                number,
-                lists::front(ids, count),
-                records,
-                index,
-                opened,
-                held,
-                runs,
-                table,
-            )),
-        },
+    match parse::numbered_ids(words, from, ids) {
+        Numbered::Wrong(f) => wrong(store, f),
+        Numbered::Done { number, count } => told(add_to(
+            store,
+            number,
+            lists::front(ids, count),
+            records,
+            index,
+            opened,
+            held,
+            runs,
+            table,
+        )),
     }
 }
 
@@ -250,40 +245,37 @@ fn join_to(
 
 // join NUMBER COUNT forward|reverse OFFSET:COORDINATE..
 pub(crate) fn join(
-    session: Session,
+    store: Store,
     words: &[u8],
     from: usize,
-    piece: &mut [u64],
-    records: &[u8],
-    index: &[u64],
-    opened: &mut [u64],
-    held: &mut [u64],
-    runs: &[u8],
-    table: &[u64],
+    piece: &mut Words,
+    records: &File,
+    index: &Words,
+    opened: &mut Half,
+    held: &mut Half,
+    runs: &File,
+    table: &Half,
 ) -> Said {
-    match session {
-        Session::Nothing => wrong(session, Fault::Unstarted),
-        Session::Kept(store) => match parse::piece_in(words, from, piece) {
-            Piece::Wrong(f) => wrong(session, f),
-            Piece::Done {
-                number,
-                n,
-                reversed,
-                count,
-            } => told(join_to(
-                store,
-                number,
-                n,
-                reversed,
-                lists::front_runs(piece, count),
-                records,
-                index,
-                opened,
-                held,
-                runs,
-                table,
-            )),
-        },
+    match parse::piece_in(words, from, piece) {
+        Piece::Wrong(f) => wrong(store, f),
+        Piece::Done {
+            number,
+            n,
+            reversed,
+            count,
+        } => told(join_to(
+            store,
+            number,
+            n,
+            reversed,
+            lists::front_runs(piece, count),
+            records,
+            index,
+            opened,
+            held,
+            runs,
+            table,
+        )),
     }
 }
 
@@ -317,36 +309,50 @@ fn close_to(
 
 // close NUMBER line · close NUMBER cycle PIVOT
 pub(crate) fn close(
-    session: Session,
+    store: Store,
     words: &[u8],
     from: usize,
-    records: &[u8],
-    index: &[u64],
-    opened: &[u64],
-    held: &[u64],
-    runs: &mut [u8],
-    table: &mut [u64],
+    records: &File,
+    index: &Words,
+    opened: &Half,
+    held: &Half,
+    runs: &mut File,
+    table: &mut Half,
 ) -> Said {
-    match session {
-        Session::Nothing => wrong(session, Fault::Unstarted),
-        Session::Kept(store) => match parse::end_in(words, from) {
-            Ended::Wrong(f) => wrong(session, f),
-            Ended::Done { number, way } => told(close_to(
-                store,
-                number,
-                way,
-                records,
-                index,
-                opened,
-                held,
-                runs,
-                table,
-            )),
-        },
+    match parse::end_in(words, from) {
+        Ended::Wrong(f) => wrong(store, f),
+        Ended::Done { number, way } => told(close_to(
+            store,
+            number,
+            way,
+            records,
+            index,
+            opened,
+            held,
+            runs,
+            table,
+        )),
     }
 }
 
 // ---- show
+
+// The answer of show is how many ids were given.
+fn ids_of(answer: Answer) -> Reply {
+    match answer {
+        Answer::Done(value) => Reply::Ids(value as usize),
+        Answer::Refused(r) => Reply::Refused(r),
+    }
+}
+
+fn shown(t: Told) -> Said {
+    let store = t.store;
+    let answer = t.answer;
+    Said {
+        store,
+        reply: ids_of(answer),
+    }
+}
 
 fn show_of(
     store: Store,
@@ -376,75 +382,37 @@ fn show_of(
     )
 }
 
-// Two numbers, and how many ids there is room for where a third says so.
-fn show_with(
-    session: Session,
-    store: Store,
-    count: usize,
-    ids: &mut [u32],
-    records: &[u8],
-    index: &[u64],
-    opened: &[u64],
-    held: &[u64],
-    runs: &[u8],
-    table: &[u64],
-) -> Said {
-    let unitig = parse::number(ids, 0);
-    let vertex = parse::number(ids, 1);
-    let room = parse::room(ids, count);
-    if count < 2 {
-        return wrong(session, Fault::Missing);
-    }
-    if 3 < count {
-        return wrong(session, Fault::Extra);
-    }
-    if ids.len() < room {
-        return wrong(session, Fault::Length);
-    }
-    told(show_of(
-        store,
-        unitig,
-        vertex,
-        room,
-        ids,
-        records,
-        index,
-        opened,
-        held,
-        runs,
-        table,
-    ))
-}
-
 // show UNITIG VERTEX [ROOM]
 pub(crate) fn show(
-    session: Session,
+    store: Store,
     words: &[u8],
     from: usize,
-    ids: &mut [u32],
-    records: &[u8],
-    index: &[u64],
-    opened: &[u64],
-    held: &[u64],
-    runs: &[u8],
-    table: &[u64],
+    ids: &mut Ids,
+    records: &File,
+    index: &Words,
+    opened: &Half,
+    held: &Half,
+    runs: &File,
+    table: &Half,
 ) -> Said {
-    match session {
-        Session::Nothing => wrong(session, Fault::Unstarted),
-        Session::Kept(store) => match lists::ids_at(words, from, ids) {
-            Listed::Wrong(f) => wrong(session, f),
-            Listed::Done(count) => show_with(
-                session,
-                store,
-                count,
-                ids,
-                records,
-                index,
-                opened,
-                held,
-                runs,
-                table,
-            ),
-        },
+    match parse::vertex_in(words, from, ids) {
+        Vertex::Wrong(f) => wrong(store, f),
+        Vertex::Done {
+            unitig,
+            vertex,
+            room,
+        } => shown(show_of(
+            store,
+            unitig,
+            vertex,
+            room,
+            ids,
+            records,
+            index,
+            opened,
+            held,
+            runs,
+            table,
+        )),
     }
 }

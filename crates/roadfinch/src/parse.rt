@@ -1,4 +1,6 @@
 // The words of each command as its arguments.
+use crate::buffers::Ids;
+use crate::buffers::Words;
 use shell::fields;
 use shell::fields::Field;
 use shell::lists;
@@ -30,11 +32,45 @@ pub enum Ended {
     Wrong(Fault),
 }
 
+// A vertex of a unitig, and how many ids there is room for.
+pub enum Vertex {
+    Done {
+        unitig: u32,
+        vertex: u32,
+        room: usize,
+    },
+    Wrong(Fault),
+}
+
+// The one word that ends a line.
+pub enum Word {
+    At { start: usize, end: usize },
+    Wrong(Fault),
+}
+
+// A number, and where its word ends.
+pub enum Next {
+    At { value: u32, next: usize },
+    Wrong(Fault),
+}
+
 // One of two words, and where it ends.
 pub enum Choice {
     First(usize),
     Second(usize),
     Wrong(Fault),
+}
+
+// The number that stands next.
+pub(crate) fn number_at(words: &[u8], from: usize) -> Next {
+    match lists::id_at(words, from) {
+        Item::Nothing => Next::Wrong(Fault::Missing),
+        Item::Wrong(f) => Next::Wrong(f),
+        Item::Value { value, next } => Next::At {
+            value: lists::narrow(value),
+            next,
+        },
+    }
 }
 
 pub(crate) fn number(xs: &[u32], i: usize) -> u32 {
@@ -49,7 +85,7 @@ pub(crate) fn entry(xs: &[u32], i: usize) -> usize {
 }
 
 // The third number, or all the room there is.
-pub(crate) fn room(xs: &[u32], count: usize) -> usize {
+fn room(xs: &[u32], count: usize) -> usize {
     if count == 3 {
         return entry(xs, 2);
     }
@@ -57,7 +93,7 @@ pub(crate) fn room(xs: &[u32], count: usize) -> usize {
 }
 
 // Exactly so many numbers up to the end of the line.
-pub(crate) fn exactly(words: &[u8], from: usize, most: usize, ids: &mut [u32]) -> Listed {
+pub(crate) fn exactly(words: &[u8], from: usize, most: usize, ids: &mut Ids) -> Listed {
     match lists::ids_at(words, from, ids) {
         Listed::Wrong(f) => Listed::Wrong(f),
         Listed::Done(count) => {
@@ -72,7 +108,7 @@ pub(crate) fn exactly(words: &[u8], from: usize, most: usize, ids: &mut [u32]) -
     }
 }
 
-fn ids_behind(number: u32, words: &[u8], from: usize, ids: &mut [u32]) -> Numbered {
+fn ids_behind(number: u32, words: &[u8], from: usize, ids: &mut Ids) -> Numbered {
     match lists::ids_at(words, from, ids) {
         Listed::Wrong(f) => Numbered::Wrong(f),
         Listed::Done(count) => Numbered::Done { number, count },
@@ -80,11 +116,10 @@ fn ids_behind(number: u32, words: &[u8], from: usize, ids: &mut [u32]) -> Number
 }
 
 // NUMBER ID..
-pub(crate) fn numbered_ids(words: &[u8], from: usize, ids: &mut [u32]) -> Numbered {
-    match lists::id_at(words, from) {
-        Item::Nothing => Numbered::Wrong(Fault::Missing),
-        Item::Wrong(f) => Numbered::Wrong(f),
-        Item::Value { value, next } => ids_behind(lists::narrow(value), words, next, ids),
+pub(crate) fn numbered_ids(words: &[u8], from: usize, ids: &mut Ids) -> Numbered {
+    match number_at(words, from) {
+        Next::Wrong(f) => Numbered::Wrong(f),
+        Next::At { value, next } => ids_behind(value, words, next, ids),
     }
 }
 
@@ -112,7 +147,7 @@ fn runs_behind(
     reversed: bool,
     words: &[u8],
     from: usize,
-    piece: &mut [u64],
+    piece: &mut Words,
 ) -> Piece {
     match lists::runs_at(words, from, piece) {
         Listed::Wrong(f) => Piece::Wrong(f),
@@ -125,7 +160,7 @@ fn runs_behind(
     }
 }
 
-fn piece_way(number: u32, n: u32, words: &[u8], from: usize, piece: &mut [u64]) -> Piece {
+fn piece_way(number: u32, n: u32, words: &[u8], from: usize, piece: &mut Words) -> Piece {
     match choose(words, from, b"forward", b"reverse") {
         Choice::Wrong(f) => Piece::Wrong(f),
         Choice::First(next) => runs_behind(number, n, false, words, next, piece),
@@ -133,20 +168,18 @@ fn piece_way(number: u32, n: u32, words: &[u8], from: usize, piece: &mut [u64]) 
     }
 }
 
-fn piece_count(number: u32, words: &[u8], from: usize, piece: &mut [u64]) -> Piece {
-    match lists::id_at(words, from) {
-        Item::Nothing => Piece::Wrong(Fault::Missing),
-        Item::Wrong(f) => Piece::Wrong(f),
-        Item::Value { value, next } => piece_way(number, lists::narrow(value), words, next, piece),
+fn piece_count(number: u32, words: &[u8], from: usize, piece: &mut Words) -> Piece {
+    match number_at(words, from) {
+        Next::Wrong(f) => Piece::Wrong(f),
+        Next::At { value, next } => piece_way(number, value, words, next, piece),
     }
 }
 
 // NUMBER COUNT forward|reverse OFFSET:COORDINATE..
-pub(crate) fn piece_in(words: &[u8], from: usize, piece: &mut [u64]) -> Piece {
-    match lists::id_at(words, from) {
-        Item::Nothing => Piece::Wrong(Fault::Missing),
-        Item::Wrong(f) => Piece::Wrong(f),
-        Item::Value { value, next } => piece_count(lists::narrow(value), words, next, piece),
+pub(crate) fn piece_in(words: &[u8], from: usize, piece: &mut Words) -> Piece {
+    match number_at(words, from) {
+        Next::Wrong(f) => Piece::Wrong(f),
+        Next::At { value, next } => piece_count(value, words, next, piece),
     }
 }
 
@@ -159,17 +192,9 @@ fn line_end(number: u32, way: Way, words: &[u8], from: usize) -> Ended {
 }
 
 fn pivot_in(number: u32, words: &[u8], from: usize) -> Ended {
-    match lists::id_at(words, from) {
-        Item::Nothing => Ended::Wrong(Fault::Missing),
-        Item::Wrong(f) => Ended::Wrong(f),
-        Item::Value { value, next } => line_end(
-            number,
-            Way::Cycle {
-                pivot: lists::narrow(value),
-            },
-            words,
-            next,
-        ),
+    match number_at(words, from) {
+        Next::Wrong(f) => Ended::Wrong(f),
+        Next::At { value, next } => line_end(number, Way::Cycle { pivot: value }, words, next),
     }
 }
 
@@ -183,9 +208,50 @@ fn way_in(number: u32, words: &[u8], from: usize) -> Ended {
 
 // NUMBER line · NUMBER cycle PIVOT
 pub(crate) fn end_in(words: &[u8], from: usize) -> Ended {
-    match lists::id_at(words, from) {
-        Item::Nothing => Ended::Wrong(Fault::Missing),
-        Item::Wrong(f) => Ended::Wrong(f),
-        Item::Value { value, next } => way_in(lists::narrow(value), words, next),
+    match number_at(words, from) {
+        Next::Wrong(f) => Ended::Wrong(f),
+        Next::At { value, next } => way_in(value, words, next),
+    }
+}
+
+fn word_alone(words: &[u8], start: usize, end: usize) -> Word {
+    match fields::next_field(words, end) {
+        Field::Nothing => Word::At { start, end },
+        Field::At { start: _, end: _ } => Word::Wrong(Fault::Extra),
+    }
+}
+
+// The next word, if it is the last.
+pub(crate) fn last_word(words: &[u8], from: usize) -> Word {
+    match fields::next_field(words, from) {
+        Field::Nothing => Word::Wrong(Fault::Missing),
+        Field::At { start, end } => word_alone(words, start, end),
+    }
+}
+
+// Two numbers, or three: what the third says is not more than the room there is.
+fn vertex_of(ids: &[u32], count: usize) -> Vertex {
+    if count < 2 {
+        return Vertex::Wrong(Fault::Missing);
+    }
+    if 3 < count {
+        return Vertex::Wrong(Fault::Extra);
+    }
+    let asked = room(ids, count);
+    if ids.len() < asked {
+        return Vertex::Wrong(Fault::Length);
+    }
+    Vertex::Done {
+        unitig: number(ids, 0),
+        vertex: number(ids, 1),
+        room: asked,
+    }
+}
+
+// UNITIG VERTEX [ROOM]
+pub(crate) fn vertex_in(words: &[u8], from: usize, ids: &mut Ids) -> Vertex {
+    match lists::ids_at(words, from, ids) {
+        Listed::Wrong(f) => Vertex::Wrong(f),
+        Listed::Done(count) => vertex_of(ids, count),
     }
 }

@@ -1,4 +1,5 @@
 // Answers into the output buffer, which goes out when it fills. Each function takes the place where the buffer's text ends, and answers the new one.
+use crate::buffers::Chunk;
 use base::Refusal;
 use shell::fields;
 use shell::reasons;
@@ -6,32 +7,36 @@ use shell::reasons::Fault;
 use shell::texts;
 
 // Writes out what waits.
-pub(crate) fn flush(at: usize, out: &[u8]) {
+pub(crate) fn flush(at: usize, out: &Chunk) {
     if !io::write_all(1, fields::part(out, 0, at)) {
         os::fail(b"standard output");
     }
 }
 
-// Space for a piece of text: no piece has more than 160 bytes.
-fn room(at: usize, out: &[u8]) -> usize {
-    if at < 65376 {
+// Space for a piece of text and what is put right behind it: in all that is never more than 1,536 bytes.
+fn room(at: usize, out: &Chunk) -> usize {
+    if at < 64000 {
         return at;
     }
     flush(at, out);
     0
 }
 
-pub(crate) fn text(t: &[u8], at: usize, out: &mut [u8]) -> usize {
+pub(crate) fn text(t: &[u8], at: usize, out: &mut Chunk) -> usize {
     let from = room(at, out);
     texts::put(t, from, out)
 }
 
-pub(crate) fn number(n: u64, at: usize, out: &mut [u8]) -> usize {
+pub(crate) fn newline(at: usize, out: &mut Chunk) -> usize {
+    text(b"\n", at, out)
+}
+
+pub(crate) fn number(n: u64, at: usize, out: &mut Chunk) -> usize {
     let from = room(at, out);
     texts::put_decimal(n, from, out)
 }
 
-fn byte(b: u8, at: usize, out: &mut [u8]) -> usize {
+fn byte(b: u8, at: usize, out: &mut Chunk) -> usize {
     let from = room(at, out);
     texts::put_byte(b, from, out)
 }
@@ -41,7 +46,7 @@ fn wide(x: u32) -> u64 {
 }
 
 // A blank before each number.
-pub(crate) fn ids(xs: &[u32], at: usize, out: &mut [u8]) -> usize {
+pub(crate) fn ids(xs: &[u32], at: usize, out: &mut Chunk) -> usize {
     let mut to = at;
     let mut i: usize = 0;
     while i < xs.len() {
@@ -52,7 +57,7 @@ pub(crate) fn ids(xs: &[u32], at: usize, out: &mut [u8]) -> usize {
 }
 
 // Two digits a byte.
-pub(crate) fn bytes(xs: &[u8], at: usize, out: &mut [u8]) -> usize {
+pub(crate) fn bytes(xs: &[u8], at: usize, out: &mut Chunk) -> usize {
     let mut to = at;
     let mut i: usize = 0;
     while i < xs.len() {
@@ -63,36 +68,34 @@ pub(crate) fn bytes(xs: &[u8], at: usize, out: &mut [u8]) -> usize {
 }
 
 // "ok COUNT: ID ID .."
-pub(crate) fn listed(xs: &[u32], at: usize, out: &mut [u8]) -> usize {
-    let a = text(b"ok ", at, out);
-    let b = number(xs.len() as u64, a, out);
-    let c = text(b":", b, out);
-    let d = ids(xs, c, out);
-    text(b"\n", d, out)
+pub(crate) fn listed(xs: &[u32], at: usize, out: &mut Chunk) -> usize {
+    let a = named(b"ok ", xs.len() as u64, at, out);
+    let b = text(b":", a, out);
+    let c = ids(xs, b, out);
+    newline(c, out)
 }
 
 // "ok HEX"
-pub(crate) fn hex(xs: &[u8], at: usize, out: &mut [u8]) -> usize {
+pub(crate) fn hex(xs: &[u8], at: usize, out: &mut Chunk) -> usize {
     let a = text(b"ok ", at, out);
     let b = bytes(xs, a, out);
-    text(b"\n", b, out)
+    newline(b, out)
 }
 
 // "ok VALUE"
-pub(crate) fn done(value: u64, at: usize, out: &mut [u8]) -> usize {
-    let a = text(b"ok ", at, out);
-    let b = number(value, a, out);
-    text(b"\n", b, out)
+pub(crate) fn done(value: u64, at: usize, out: &mut Chunk) -> usize {
+    let a = named(b"ok ", value, at, out);
+    newline(a, out)
 }
 
 // A name and a number.
-pub(crate) fn named(name: &[u8], n: u64, at: usize, out: &mut [u8]) -> usize {
+pub(crate) fn named(name: &[u8], n: u64, at: usize, out: &mut Chunk) -> usize {
     let a = text(name, at, out);
     number(n, a, out)
 }
 
 // A blank before each number.
-pub(crate) fn words(xs: &[u64], at: usize, out: &mut [u8]) -> usize {
+pub(crate) fn words(xs: &[u64], at: usize, out: &mut Chunk) -> usize {
     let mut to = at;
     let mut i: usize = 0;
     while i < xs.len() {
@@ -103,7 +106,7 @@ pub(crate) fn words(xs: &[u64], at: usize, out: &mut [u8]) -> usize {
 }
 
 // A blank before each run, which is OFFSET:COORDINATE.
-pub(crate) fn pairs(xs: &[u64], at: usize, out: &mut [u8]) -> usize {
+pub(crate) fn pairs(xs: &[u64], at: usize, out: &mut Chunk) -> usize {
     let mut to = at;
     let mut i: usize = 0;
     while i < xs.len() {
@@ -115,19 +118,16 @@ pub(crate) fn pairs(xs: &[u64], at: usize, out: &mut [u8]) -> usize {
 }
 
 // "refused K reason"
-pub(crate) fn refused(r: Refusal, at: usize, out: &mut [u8]) -> usize {
+pub(crate) fn refused(r: Refusal, at: usize, out: &mut Chunk) -> usize {
     let a = text(b"refused ", at, out);
-    let b = room(a, out);
-    let c = reasons::put_reason(r, b, out);
-    text(b"\n", c, out)
+    let b = reasons::put_reason(r, a, out);
+    newline(b, out)
 }
 
 // "error LINE: what is wrong"
-pub(crate) fn wrong(f: Fault, line: u64, at: usize, out: &mut [u8]) -> usize {
-    let a = text(b"error ", at, out);
-    let b = number(line, a, out);
-    let c = text(b": ", b, out);
-    let d = room(c, out);
-    let e = reasons::put_fault(f, d, out);
-    text(b"\n", e, out)
+pub(crate) fn wrong(f: Fault, line: u64, at: usize, out: &mut Chunk) -> usize {
+    let a = named(b"error ", line, at, out);
+    let b = text(b": ", a, out);
+    let c = reasons::put_fault(f, b, out);
+    newline(c, out)
 }

@@ -1,4 +1,8 @@
 // What the store holds, in text.
+use crate::buffers::Chunk;
+use crate::buffers::File;
+use crate::buffers::Half;
+use crate::buffers::Words;
 use crate::say;
 use base::Given;
 use shell::fields;
@@ -14,17 +18,17 @@ fn at_or(xs: &[u64], i: usize) -> u64 {
 }
 
 // The used bytes of the record file.
-pub(crate) fn records(store: Store, bytes: &[u8], at: usize, out: &mut [u8]) -> usize {
+pub(crate) fn records(store: Store, bytes: &File, at: usize, out: &mut Chunk) -> usize {
     let used = store.used;
     say::hex(fields::part(bytes, 0, used.records), at, out)
 }
 
 // One entry more than there are sets.
-pub(crate) fn index(store: Store, entries: &[u64], at: usize, out: &mut [u8]) -> usize {
+pub(crate) fn index(store: Store, entries: &Words, at: usize, out: &mut Chunk) -> usize {
     let used = store.used;
     let a = say::text(b"ok", at, out);
     let b = say::words(lists::front_runs(entries, used.sets as usize + 1), a, out);
-    say::text(b"\n", b, out)
+    say::newline(b, out)
 }
 
 // A unitig: its place, its vertex count and its runs.
@@ -32,9 +36,9 @@ fn unitig(
     place: usize,
     n: u64,
     bytes: &[u8],
-    piece: &mut [u64],
+    piece: &mut Words,
     at: usize,
-    out: &mut [u8],
+    out: &mut Chunk,
 ) -> usize {
     let a = say::number(place as u64, at, out);
     let b = say::text(b" ", a, out);
@@ -42,7 +46,7 @@ fn unitig(
     match runs::bytes::read_unitig_color_runs(bytes, piece) {
         Given::Done { items, bytes: _ } => {
             let d = say::pairs(lists::front_runs(piece, items), c, out);
-            say::text(b"\n", d, out)
+            say::newline(d, out)
         }
         Given::Refused(_) => say::text(b" unreadable\n", c, out),
     }
@@ -51,11 +55,11 @@ fn unitig(
 // How many unitigs are closed, then a line each.
 pub(crate) fn unitigs(
     store: Store,
-    files: &[u8],
-    table: &[u64],
-    piece: &mut [u64],
+    files: &File,
+    table: &Half,
+    piece: &mut Words,
     at: usize,
-    out: &mut [u8],
+    out: &mut Chunk,
 ) -> usize {
     let used = store.used;
     let count = used.unitigs as usize;
@@ -77,33 +81,49 @@ pub(crate) fn unitigs(
     to
 }
 
-fn current(store: Store, at: usize, out: &mut [u8]) -> usize {
-    let now = store.current;
+// Behind the sets: the open unitig, and what is closed.
+fn unitig_sizes(now: Current, unitigs: u32, runs: usize, at: usize, out: &mut Chunk) -> usize {
+    let a = current(now, at, out);
+    let b = say::named(b" unitigs ", unitigs as u64, a, out);
+    let c = say::named(b" runs ", runs as u64, b, out);
+    say::newline(c, out)
+}
+
+fn current(now: Current, at: usize, out: &mut Chunk) -> usize {
     match now {
         Current::Nothing => say::text(b" open none", at, out),
         Current::Open(n) => say::named(b" open ", n as u64, at, out),
     }
 }
 
-fn sizes(store: Store, at: usize, out: &mut [u8]) -> usize {
-    let used = store.used;
-    let a = current(store, at, out);
-    let b = say::named(b" unitigs ", used.unitigs as u64, a, out);
-    let c = say::named(b" runs ", used.runs as u64, b, out);
-    say::text(b"\n", c, out)
-}
-
-fn limits(store: Store, at: usize, out: &mut [u8]) -> usize {
-    let a = say::named(b"ok N ", store.colors as u64, at, out);
-    let b = say::named(b" W ", store.worker as u64, a, out);
-    say::named(b" last ", store.number as u64, b, out)
+fn set_sizes(
+    colors: u32,
+    worker: u32,
+    number: u32,
+    sets: u32,
+    records: usize,
+    at: usize,
+    out: &mut Chunk,
+) -> usize {
+    let a = say::named(b"ok N ", colors as u64, at, out);
+    let b = say::named(b" W ", worker as u64, a, out);
+    let c = say::named(b" last ", number as u64, b, out);
+    let d = say::named(b" sets ", sets as u64, c, out);
+    say::named(b" records ", records as u64, d, out)
 }
 
 // One line: what the store was started with, and how much it holds.
-pub(crate) fn state(store: Store, at: usize, out: &mut [u8]) -> usize {
+pub(crate) fn state(store: Store, at: usize, out: &mut Chunk) -> usize {
     let used = store.used;
-    let a = limits(store, at, out);
-    let b = say::named(b" sets ", used.sets as u64, a, out);
-    let c = say::named(b" records ", used.records as u64, b, out);
-    sizes(store, c, out)
+    let now = store.current;
+    let a = set_sizes(
+        store.colors,
+        store.worker,
+        store.number,
+        used.sets,
+        used.records,
+        at,
+        out,
+    );
+    unitig_sizes(now, used.unitigs, used.runs, a, out)
 }

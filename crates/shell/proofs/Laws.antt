@@ -6,3 +6,4 @@ pub mod Pairs
 pub mod Hexes
 pub mod Lists
 pub mod Texts
+pub mod Back

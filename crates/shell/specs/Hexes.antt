@@ -1,9 +1,10 @@
 -- Bytes as hexadecimal digits, two a byte, the high one first.
-use Prim.Native.Nat.{ℕ, _+_, _-_, _*_}
+use Prim.Native.Nat.{ℕ, _+_, _-_, _*_, _/_, _%_}
 use mathlib.Core.List.{List, [], _∷_}
 use lib.ListN.{length, set}
 use lib.Dec.{leb, ltb}
 use Rattle.base.specs.Tests.{_when_else_}
+use Rattle.io.specs.Digits.{glyph}
 use Rattle.shell.specs.declared.hexes.Hexed.{Hexed}
 use Rattle.shell.specs.declared.hexes.Hexed.the-variants.{Done, Bad, Many}
 
@@ -27,3 +28,8 @@ unhexAt (x ∷ y ∷ rest) k out =
     (Bad, out) when ltb 15 (digitOf y) else
     (Many, out) when leb (length out) k else
     unhexAt rest (k + 1) (set out k (digitOf x * 16 + digitOf y))
+
+-- how bytes are printed
+unfoldable pub hexOf : List ℕ → List ℕ
+hexOf [] = []
+hexOf (b ∷ bs) = glyph (b / 16) ∷ glyph (b % 16) ∷ hexOf bs

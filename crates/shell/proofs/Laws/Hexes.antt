@@ -14,7 +14,7 @@ use Rattle.shell.specs.declared.hexes.Hexed.{Hexed}
 use Rattle.shell.specs.declared.hexes.Hexed.the-variants.{Done, Bad, Many}
 use Rattle.shell.specs.Hexes.{digitOf, unhexAt}
 
-none : (k : ℕ) (out : List ℕ) → unhexAt [] k out ≡ (Done k, out)
+pub none : (k : ℕ) (out : List ℕ) → unhexAt [] k out ≡ (Done k, out)
 unfolding unhexAt
 none k out = refl
 
@@ -22,7 +22,7 @@ single : (x k : ℕ) (out : List ℕ) → unhexAt (x ∷ []) k out ≡ (Bad, out
 unfolding unhexAt
 single x k out = refl
 
-double : (x y : ℕ) (rest : List ℕ) (k : ℕ) (out : List ℕ) → unhexAt (x ∷ y ∷ rest) k out ≡ ((Bad, out) when ltb 15 (digitOf x) else (Bad, out) when ltb 15 (digitOf y) else (Many, out) when leb (length out) k else unhexAt rest (k + 1) (set out k (digitOf x * 16 + digitOf y)))
+pub double : (x y : ℕ) (rest : List ℕ) (k : ℕ) (out : List ℕ) → unhexAt (x ∷ y ∷ rest) k out ≡ ((Bad, out) when ltb 15 (digitOf x) else (Bad, out) when ltb 15 (digitOf y) else (Many, out) when leb (length out) k else unhexAt rest (k + 1) (set out k (digitOf x * 16 + digitOf y)))
 unfolding unhexAt
 double x y rest k out = refl
 

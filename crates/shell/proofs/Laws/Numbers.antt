@@ -25,11 +25,11 @@ unfolding numberOf
 number-start most [] n = absurd (n refl)
 number-start most (x ∷ xs) n = refl
 
-from-none : (most v : ℕ) → numberFrom most v [] ≡ Value v
+pub from-none : (most v : ℕ) → numberFrom most v [] ≡ Value v
 unfolding numberFrom
 from-none most v = refl
 
-from-cons : (most v b : ℕ) (bs : List ℕ) → numberFrom most v (b ∷ bs) ≡ (Bad when ltb b 48 else Bad when ltb 57 b else Large when ltb most (v * 10 + (b - 48)) else numberFrom most (v * 10 + (b - 48)) bs)
+pub from-cons : (most v b : ℕ) (bs : List ℕ) → numberFrom most v (b ∷ bs) ≡ (Bad when ltb b 48 else Bad when ltb 57 b else Large when ltb most (v * 10 + (b - 48)) else numberFrom most (v * 10 + (b - 48)) bs)
 unfolding numberFrom
 from-cons most v b bs = refl
 

@@ -16,11 +16,11 @@ use Rattle.shell.specs.declared.reasons.Fault.{Fault}
 use Rattle.shell.specs.Reasons.{reasonOf, faultOf}
 use Rattle.shell.specs.Texts.{putAt, Printed}
 
-none : (at : ℕ) (out : List ℕ) → putAt [] at out ≡ (at, out)
+pub none : (at : ℕ) (out : List ℕ) → putAt [] at out ≡ (at, out)
 unfolding putAt
 none at out = refl
 
-cons : (b : ℕ) (bs : List ℕ) (at : ℕ) (out : List ℕ) → putAt (b ∷ bs) at out ≡ ((at, out) when leb (length out) at else putAt bs (at + 1) (set out at b))
+pub cons : (b : ℕ) (bs : List ℕ) (at : ℕ) (out : List ℕ) → putAt (b ∷ bs) at out ≡ ((at, out) when leb (length out) at else putAt bs (at + 1) (set out at b))
 unfolding putAt
 cons b bs at out = refl
 

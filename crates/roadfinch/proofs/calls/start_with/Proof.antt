@@ -5,23 +5,8 @@ use borrow.Author.Needs.{needs}
 use Rattle.roadfinch.proofs.calls.start_with.Statement.{statement}
 use Rattle.roadfinch.proofs.calls.start_with.Tie as tie
 
-entry-requires : tie.Need-entry-requires
-entry-requires c κs = search needs
-
-entry-requires-2 : tie.Need-entry-requires-2
-entry-requires-2 c κs = search needs
-
-entry-requires-3 : tie.Need-entry-requires-3
-entry-requires-3 c κs = search needs
-
-entry-requires-4 : tie.Need-entry-requires-4
-entry-requires-4 c κs = search needs
-
-entry-requires-5 : tie.Need-entry-requires-5
-entry-requires-5 c κs = search needs
-
-entry-requires-6 : tie.Need-entry-requires-6
-entry-requires-6 c κs = search needs
+is-long-requires : tie.Need-is-long-requires
+is-long-requires c κs = search needs
 
 wrong-requires : tie.Need-wrong-requires
 wrong-requires c κs = search needs
@@ -29,35 +14,8 @@ wrong-requires c κs = search needs
 returns : tie.Need-returns
 returns c = search needs
 
-wrong-requires-2 : tie.Need-wrong-requires-2
-wrong-requires-2 c κs = search needs
-
-returns-2 : tie.Need-returns-2
-returns-2 c = search needs
-
-wrong-requires-3 : tie.Need-wrong-requires-3
-wrong-requires-3 c κs = search needs
-
-returns-3 : tie.Need-returns-3
-returns-3 c = search needs
-
-wrong-requires-4 : tie.Need-wrong-requires-4
-wrong-requires-4 c κs = search needs
-
-returns-4 : tie.Need-returns-4
-returns-4 c = search needs
-
-wrong-requires-5 : tie.Need-wrong-requires-5
-wrong-requires-5 c κs = search needs
-
-returns-5 : tie.Need-returns-5
-returns-5 c = search needs
-
-wrong-requires-6 : tie.Need-wrong-requires-6
-wrong-requires-6 c κs = search needs
-
-returns-6 : tie.Need-returns-6
-returns-6 c = search needs
+entry-requires : tie.Need-entry-requires
+entry-requires c κs = search needs
 
 least-requires : tie.Need-least-requires
 least-requires c κs = search needs
@@ -68,6 +26,9 @@ number-requires c κs = search needs
 number-requires-2 : tie.Need-number-requires-2
 number-requires-2 c κs = search needs
 
+entry-requires-2 : tie.Need-entry-requires-2
+entry-requires-2 c κs = search needs
+
 part-requires : tie.Need-part-requires
 part-requires c κs = search needs
 
@@ -77,14 +38,26 @@ slice-relend-prefix-start c = search needs
 slice-aggregate-start : tie.Need-slice-aggregate-start
 slice-aggregate-start c = sym (length-take-le _ _ (search needs))
 
+entry-requires-3 : tie.Need-entry-requires-3
+entry-requires-3 c κs = search needs
+
 front-runs-requires : tie.Need-front-runs-requires
 front-runs-requires c κs = search needs
+
+entry-requires-4 : tie.Need-entry-requires-4
+entry-requires-4 c κs = search needs
 
 front-runs-requires-2 : tie.Need-front-runs-requires-2
 front-runs-requires-2 c κs = search needs
 
+entry-requires-5 : tie.Need-entry-requires-5
+entry-requires-5 c κs = search needs
+
 part-requires-2 : tie.Need-part-requires-2
 part-requires-2 c κs = search needs
+
+entry-requires-6 : tie.Need-entry-requires-6
+entry-requires-6 c κs = search needs
 
 front-runs-requires-3 : tie.Need-front-runs-requires-3
 front-runs-requires-3 c κs = search needs
@@ -98,42 +71,33 @@ started-requires c κs = search needs
 same-length : tie.Need-same-length
 same-length c = search needs
 
-returns-7 : tie.Need-returns-7
-returns-7 c = search needs
+returns-2 : tie.Need-returns-2
+returns-2 c = search needs
 
 pub start-with-spec : {M : Type 1} → statement M
 start-with-spec =
     tie.close
     (tie.spec
-    entry-requires
-    entry-requires-2
-    entry-requires-3
-    entry-requires-4
-    entry-requires-5
-    entry-requires-6
+    is-long-requires
     wrong-requires
     returns
-    wrong-requires-2
-    returns-2
-    wrong-requires-3
-    returns-3
-    wrong-requires-4
-    returns-4
-    wrong-requires-5
-    returns-5
-    wrong-requires-6
-    returns-6
+    entry-requires
     least-requires
     number-requires
     number-requires-2
+    entry-requires-2
     part-requires
     slice-relend-prefix-start
     slice-aggregate-start
+    entry-requires-3
     front-runs-requires
+    entry-requires-4
     front-runs-requires-2
+    entry-requires-5
     part-requires-2
+    entry-requires-6
     front-runs-requires-3
     start-requires
     started-requires
     same-length
-    returns-7)
+    returns-2)

@@ -7,7 +7,7 @@ use Rattle.roadfinch.proofs.say.pairs.Statement.{statement}
 use Rattle.roadfinch.proofs.say.pairs.Tie as tie
 
 abbrev Inv-loop : tie.InvT-loop
-Inv-loop xs at out₀ to₀ i₀ t6 t7 out to i = length out ≡ length out₀
+Inv-loop xs at out₀ to₀ i₀ t6 t7 out to i = i ≡ i
 
 abbrev μ-loop : tie.MeasureT-loop
 μ-loop xs at out₀ to₀ i₀ t6 t7 out to i = length xs - i
@@ -57,9 +57,6 @@ loop-less c = search needs
 loop-again : tie.Need-loop-again Inv-loop μ-loop
 loop-again c = search needs
 
-same-length : tie.Need-same-length Inv-loop μ-loop
-same-length c = search needs
-
 returns : tie.Need-returns Inv-loop μ-loop
 returns c = search needs
 
@@ -84,5 +81,4 @@ pairs-spec =
     add-i
     loop-less
     loop-again
-    same-length
     returns)

@@ -1,13 +1,11 @@
 -- `roadfinch::views::unitigs` meets its contract.
-use mathlib.Core.Path.{_≡_}
 use Prim.Native.Nat.{_-_, _≤_}
-use lib.ListN.{length}
 use borrow.Author.Needs.{needs}
 use Rattle.roadfinch.proofs.views.unitigs.Statement.{statement}
 use Rattle.roadfinch.proofs.views.unitigs.Tie as tie
 
 abbrev Inv-loop : tie.InvT-loop
-Inv-loop files table piece₀ at out₀ count end to₀ i₀ piece out to i = (count ≤ 4294967295) × (length piece ≡ length piece₀) × (length out ≡ length out₀)
+Inv-loop files table piece₀ at out₀ count end to₀ i₀ piece out to i = count ≤ 4294967295
 
 abbrev μ-loop : tie.MeasureT-loop
 μ-loop files table piece₀ at out₀ count end to₀ i₀ piece out to i = count - i
@@ -51,12 +49,6 @@ loop-less c = search needs
 loop-again : tie.Need-loop-again Inv-loop μ-loop
 loop-again c = search needs
 
-same-length : tie.Need-same-length Inv-loop μ-loop
-same-length c = search needs
-
-same-length-2 : tie.Need-same-length-2 Inv-loop μ-loop
-same-length-2 c = search needs
-
 returns : tie.Need-returns Inv-loop μ-loop
 returns c = search needs
 
@@ -79,6 +71,4 @@ unitigs-spec =
     add-i
     loop-less
     loop-again
-    same-length
-    same-length-2
     returns)
