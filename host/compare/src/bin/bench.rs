@@ -187,39 +187,65 @@ fn set(
     }
 }
 
-/// Random sets of N = 64: written to one file, indexed, read from it by the index.
+/// Random sets of N = 64.
 fn small_sets(table: &mut Table, count: usize) {
+    let sets = random_sets(64, count, 0..65);
+    let input = format!("{} sets of N = 64", grouped(count as u64));
+    many_sets(table, 64, &sets, input, ("set", count));
+}
+
+/// Random sets of one size, so many that their codes aren't foreseen as those of one set are that comes again and again.
+fn sets_in_turn(table: &mut Table, n: u32, len: u32) {
+    let count = 50;
+    let sets = random_sets(n, count, len..len + 1);
+    let input = format!(
+        "N = {}, {count} sets of {} ids",
+        grouped(n.into()),
+        grouped(len.into())
+    );
+    many_sets(table, n, &sets, input, ("id", count * len as usize));
+}
+
+fn random_sets(n: u32, count: usize, sizes: std::ops::Range<u32>) -> Vec<Vec<u32>> {
     let mut random = Random::new(21);
-    let n = 64;
-    let sets: Vec<Vec<u32>> = (0..count)
+    (0..count)
         .map(|_| {
-            let len = random.below(65) as u32;
+            let len = sizes.start + random.below(u64::from(sizes.end - sizes.start)) as u32;
             random.set(n, len)
         })
-        .collect();
+        .collect()
+}
+
+/// Sets written to one file, and read from it by their starts.
+fn many_sets(
+    table: &mut Table,
+    n: u32,
+    sets: &[Vec<u32>],
+    input: String,
+    unit: (&'static str, usize),
+) {
     let mut file = Vec::new();
     let mut starts = vec![0];
-    for ids in &sets {
+    for ids in sets {
         file.extend(record_of(n, ids));
         starts.push(file.len() as u64);
     }
-    let input = format!("{} sets of N = 64", grouped(count as u64));
     let mut writer = ColorWorkerWriter::default();
     let mut out = vec![0; file.len()];
     table.row(
         "write records",
         input.clone(),
-        ("set", count),
+        unit,
         || {
             writer.output.clear();
-            for ids in &sets {
+            for ids in sets {
                 color::write_color_record(&mut writer, ids, n).unwrap();
             }
             black_box(&writer.output);
         },
         || {
             let mut at = 0;
-            for ids in &sets {
+            for ids in sets {
                 let mut written = 0;
                 accepted(proved::write_record(n, ids, &mut out[at..], &mut written));
                 at += written as usize;
@@ -228,19 +254,19 @@ fn small_sets(table: &mut Table, count: usize) {
         },
     );
     assert_eq!(writer.output, file);
-    let mut ids = vec![0; 64];
+    let mut ids = vec![0; n as usize];
     table.row(
         "read records",
         input,
-        ("set", count),
+        unit,
         || {
-            for &start in &starts[..count] {
+            for &start in &starts[..sets.len()] {
                 let part = &file[start as usize..];
                 black_box(drive::read_color_record(part, n).unwrap());
             }
         },
         || {
-            for &start in &starts[..count] {
+            for &start in &starts[..sets.len()] {
                 let (mut given, mut taken) = (0, 0);
                 let part = &file[start as usize..];
                 accepted(proved::read_record(
@@ -710,6 +736,9 @@ fn main() {
     sparse(&mut one, 1000);
     bitmap(&mut one, 4096);
     dense(&mut one, 65_536, 500);
+    sets_in_turn(&mut one, 1_048_576, 1000);
+    sets_in_turn(&mut one, 4096, 2048);
+    sets_in_turn(&mut one, 65_536, 65_036);
     small_sets(&mut one, 1000);
     index(&mut one, 100_000);
     reverse_and_append(&mut one, 100_000, 1_000_000);
@@ -788,8 +817,9 @@ Where the proved code is slower than the reference, or reads less than twice as 
 leaves all lent memory as it was, so a call tests everything before it writes anything, where the reference tests little
 and writes as it goes. \"Tests\" is the same call with no space for its result: it makes every test and is refused (3); reverse in place and make
 index, which test space first or not at all, are refused at their last run (6) or record (4) instead.
-A sparse set is decoded once to test and once to fill; a set is measured before its length prefix can be written; make
-index reads each prefix twice; a piece is tested for sharpness before it is appended.
+A set with more than 1,024 ids coded as distances is decoded once to test and once to fill; a set of 136 colours or more
+is measured before its length prefix can be written; make index reads each prefix twice; a piece is tested for sharpness
+before it is appended.
 
 {}",
         processor(),
