@@ -65,9 +65,10 @@ impl<T: Pattern> Lent<T> {
     }
 }
 
-/// The sizes to lend for a result of so many items.
+/// The sizes to lend for a result of so many items. The longest leaves so much space that a short record is written
+/// without being measured first.
 fn sizes(needed: usize) -> Vec<usize> {
-    let mut sizes = vec![needed, needed + 7];
+    let mut sizes = vec![needed, needed + 7, needed + 128];
     if needed > 0 {
         sizes.push(needed - 1);
     }
