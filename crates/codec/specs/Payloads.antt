@@ -50,6 +50,7 @@ KeptBy sparse N n bits room = Kept (readGaps n 0 N bits) n room
 KeptBy bitmap N n bits room = Unit {0}
 KeptBy dense N n bits room = Kept (readGaps (N - n) 0 N bits) (N - n) room
 
+-- the same of what is found in a payload
 abbrev pub KeptOf : ℕ → List ℕ → Payload → List ℕ → Type 0
 KeptOf N payload (Ids count at) room = KeptBy (regime N count) N count (drop at (bitsOf payload)) room
 KeptOf N payload NoIds room = Unit {0}
