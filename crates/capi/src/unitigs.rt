@@ -7,7 +7,7 @@ ghost use mathlib.Core.Path.{_≡_};
 ghost use Rattle.runs.specs.Reverse.{reverseInto, reverseInPlace};
 ghost use Rattle.runs.specs.Append.{appendInto};
 ghost use Rattle.runs.specs.Rotate.{rotateInto};
-ghost use Rattle.runs.specs.Bytes.{writeRuns, readInto};
+ghost use Rattle.runs.specs.Bytes.{writeRuns, readRunsInto};
 ghost use Rattle.capi.specs.Exports.{one, two};
 
 // The list of the same colours from the other end; `count` runs.
@@ -113,7 +113,7 @@ pub extern "C" fn rf_read_runs(
     given: &mut u64,
     taken: &mut u64,
 ) -> u32
-    ensures { λ r. ⌜ (r, now (given .exit), now (taken .exit), now (out .exit)) ≡ two (readInto (now (bytes .entry)) (now (out .entry))) (now (given .entry)) (now (taken .entry)) ⌝ }
+    ensures { λ r. ⌜ (r, now (given .exit), now (taken .exit), now (out .exit)) ≡ two (readRunsInto (now (bytes .entry)) (now (out .entry))) (now (given .entry)) (now (taken .entry)) ⌝ }
 {
     match runs::bytes::read_unitig_color_runs(bytes, out) {
         Given::Done { items, bytes: size } => {

@@ -10,6 +10,7 @@ pub mod Prefix
 pub mod Varints
 pub mod Ascending
 pub mod Sets
+pub mod Members
 pub mod Gaps
 pub mod Coded
 pub mod Bitmaps
@@ -20,6 +21,6 @@ pub mod Encoded
 pub mod Decoding
 pub mod Records
 pub mod Reading
+pub mod Exactly
 pub mod Compared
 pub mod Indexing
-pub mod Cases

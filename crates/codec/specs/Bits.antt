@@ -1,4 +1,4 @@
--- Bits of numbers and of byte strings, lowest first (section 1).
+-- Section 1 of 01: bits. Bit i of a stream is bit i mod 8 of byte i div 8, lowest first; the end is padded with zero bits to a byte.
 use Prim.Native.Nat.{ℕ, zero, suc, _+_, _*_, _/_, _%_, _<_}
 use mathlib.Core.Bool.{Bool, true, false}
 use mathlib.Core.List.{List, [], _∷_, _++_}

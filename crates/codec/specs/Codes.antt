@@ -1,4 +1,4 @@
--- Elias gamma and delta codes of every natural number, and their readers (section 2).
+-- Section 2 of 01: codes. Elias gamma and delta codes of every natural number, and their readers.
 use Prim.Native.Nat.{ℕ, zero, suc, _+_, _-_, _/_, _^_}
 use mathlib.Core.Bool.{Bool, true, false, cond}
 use mathlib.Core.List.{List, [], _∷_, _++_}
@@ -26,7 +26,7 @@ gamma v = replicate (highBit (v + 1)) false ++ true ∷ lowBits (highBit (v + 1)
 unfoldable pub delta : ℕ → List Bool
 delta v = gamma (highBit (v + 1)) ++ lowBits (highBit (v + 1)) (v + 1)
 
--- what reading answers: a value and the bits behind it, or that the bits end first
+-- what reading finds: a value and the bits behind it, or that the bits end first
 pub data Read : Type 0 where
   got : ℕ → List Bool → Read
   end : Read

@@ -1,6 +1,6 @@
--- The index of a record file: the start of each record, and the end of the last (section 5).
+-- Section 5 of 01: the index of a record file. The start of each record, and the end of the last.
 use Prim.Native.Nat.{ℕ, zero, suc, _+_, _-_}
-use mathlib.Core.Bool.{Bool, cond}
+use mathlib.Core.Bool.{cond}
 use mathlib.Core.List.{List, [], _∷_}
 use lib.ListN.{length, drop}
 use lib.Dec.{leb, ltb}
@@ -20,7 +20,9 @@ andEntry at (stopped n) = stopped n
 
 -- by what the prefix at `at` says: go on behind the payload, which is not looked at
 abbrev pub behind : (ℕ → List ℕ → Indexed) → ℕ → ℕ → ReadLeb → Indexed
+-- 4 for a cut payload
 behind go at left (whole n rest) = cond (leb n (length rest)) (andEntry at (go (at + (left - length rest) + n) (drop n rest))) (stopped 4)
+-- 4 or 5 of the prefix
 behind go at left cut = stopped 4
 behind go at left bad = stopped 5
 
@@ -36,6 +38,9 @@ abbrev pub indexBy : Indexed → List ℕ → Answer × List ℕ
 indexBy (entries es) out = (done [], over es out)
 indexBy (stopped n) out = (refused n, out)
 
--- make index: 3 before anything is read, then record by record 4 or 5
+-- make index: nothing more than that it was made
 unfoldable pub makeIndex : ℕ → List ℕ → List ℕ → Answer × List ℕ
-makeIndex count bytes out = (refused 3, out) when ltb (length out) (count + 1) else indexBy (indexOf count bytes) out
+makeIndex count bytes out =
+    -- 3, fewer than count + 1 entries
+    (refused 3, out) when ltb (length out) (count + 1) else
+    indexBy (indexOf count bytes) out

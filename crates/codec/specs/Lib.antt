@@ -1,16 +1,11 @@
--- The formats: what a reader of the contracts has to believe.
+-- The formats of 01, sections 1 to 5: what a reader of the contracts has to believe.
 pub mod Bits
 pub mod Codes
-pub mod Prefix
 pub mod Sets
-pub mod Flat
+pub mod Prefix
 pub mod Records
 pub mod Index
--- What the functions inside the crate say of bit places, writers and cursors.
-pub mod Places
-pub mod Windows
-pub mod Writers
-pub mod Gaps
-pub mod Bitmaps
-pub mod Payloads
-pub mod Indexes
+-- A file of records, and one of runs.
+pub mod Flat
+-- What serves the functions inside the crate and their proofs; no public contract rests on it alone.
+pub mod Inside

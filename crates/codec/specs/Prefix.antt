@@ -1,13 +1,12 @@
--- LEB128 length prefixes: groups of seven bits, low group first (section 4), and what reading and writing one answers.
+-- Section 4 of 01: the length prefix of a record. LEB128: seven bits a byte, low group first, 128 added on all but the last.
 use Prim.Native.Nat.{ℕ, zero, suc, _+_, _-_, _*_, _/_, _%_, _^_}
-use mathlib.Core.Bool.{Bool, true, false, not, cond, _||_, _&&_}
+use mathlib.Core.Bool.{Bool, true, false, not, cond, _||_}
 use mathlib.Core.List.{List, [], _∷_}
 use lib.Dec.{ltb, eqb}
 use lib.ListN.{length}
 use Rattle.base.specs.Tests.{_when_else_}
-use Rattle.base.specs.Answers.{Answer, refused, done}
+use Rattle.base.specs.Answers.{Answer, refused, done, numberOf}
 use Rattle.base.specs.Parts.{over}
-use Rattle.base.specs.declared.Refusal.the-variants as refusal
 use Rattle.codec.specs.declared.prefix.Prefix.{Prefix}
 use Rattle.codec.specs.declared.prefix.Prefix.the-variants.{Whole, Refused}
 
@@ -47,19 +46,22 @@ readPrefix bytes = narrow (readLeb 5 true bytes)
 
 -- ---- what the functions answer
 
--- the number and the length of its prefix, or 4 or 5
-abbrev pub prefixIn : ℕ → ReadLeb → Prefix
-prefixIn total (whole n rest) = Whole n (total - length rest)
-prefixIn total cut = Refused refusal.Cut
-prefixIn total bad = Refused refusal.Damaged
+-- a prefix in the numbers of 01: its value and its length, or its refusal
+abbrev pub ofPrefix : Prefix → Answer
+ofPrefix (Whole value len) = done (value ∷ len ∷ [])
+ofPrefix (Refused r) = refused (numberOf r)
 
--- the answer at the last group, behind i groups of value low
-abbrev pub lastOf : ℕ → ℕ → ℕ → Prefix
-lastOf low b i =
-    cond (ltb (low + 2 ^ (7 * i) * b) (2 ^ 32) && (eqb i 0 || not (eqb b 0))) (Whole (low + 2 ^ (7 * i) * b) (i + 1)) (Refused refusal.Damaged)
+-- read prefix, by what is read of `total` bytes; 80 is hexadecimal, as in 01
+abbrev pub prefixIn : ℕ → ReadLeb → Answer
+prefixIn total (whole n rest) = done (n ∷ (total - length rest) ∷ [])
+-- 4, the input has fewer than five bytes, none below 80
+prefixIn total cut = refused 4
+-- 5, its first five all 80 or more, a needless last zero group, or a value above 4,294,967,295
+prefixIn total bad = refused 5
 
--- write prefix: 3; the bytes written
+-- write prefix: the bytes written
 unfoldable pub writePrefix : ℕ → List ℕ → Answer × List ℕ
 writePrefix n out =
+    -- 3, output too short
     (refused 3, out) when ltb (length out) (length (prefixOf n)) else
     (done (length (prefixOf n) ∷ []), over (prefixOf n) out)

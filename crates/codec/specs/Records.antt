@@ -1,4 +1,4 @@
--- Records (section 4), record files, and what writing and reading a record answers.
+-- Section 4 of 01: records, files of them, and what writing and reading one answers.
 use Prim.Native.Nat.{ℕ, _-_}
 use mathlib.Core.Bool.{Bool, true, false, not, cond, _||_, _&&_}
 use mathlib.Core.List.{List, [], _∷_, _++_}
@@ -7,11 +7,6 @@ use lib.Dec.{leb, ltb, eqb}
 use Rattle.base.specs.Tests.{_when_else_}
 use Rattle.base.specs.Answers.{Answer, refused, done}
 use Rattle.base.specs.Parts.{over}
-use Rattle.base.specs.declared.Refusal.the-variants as refusal
-use Rattle.base.specs.declared.Given.{Given}
-use Rattle.base.specs.declared.Given.the-variants as given
-use Rattle.codec.specs.declared.prefix.Prefix.{Prefix}
-use Rattle.codec.specs.declared.prefix.Prefix.the-variants as prefix
 use Rattle.codec.specs.Prefix.{prefixOf, ReadLeb, whole, cut, bad, readPrefix}
 use Rattle.codec.specs.Flat.{flat}
 use Rattle.codec.specs.Sets.{within, encodeSet, Decoded, set, noSet, decodeSet}
@@ -24,7 +19,7 @@ recordOf N ids = prefixOf (length (encodeSet N ids)) ++ encodeSet N ids
 abbrev pub fileOf : ℕ → List (List ℕ) → List ℕ
 fileOf N sets = flat (recordOf N) sets
 
--- what reading a record answers: a set and the bytes behind it, that bytes are missing (4), or damage (5)
+-- what reading a record finds: a set and the bytes behind it, that bytes are missing, or that they are no written form
 pub data ReadRecord : Type 0 where
   found : List ℕ → List ℕ → ReadRecord
   short : ReadRecord
@@ -48,37 +43,43 @@ readRecord N bytes = afterPrefix N (readPrefix bytes)
 unfoldable pub badColors : ℕ → Bool
 badColors N = eqb N 0 || ltb 1048576 N
 
--- write record: 1, 2, 3; the bytes written
+-- write record: the bytes written
 unfoldable pub writeRecord : ℕ → List ℕ → List ℕ → Answer × List ℕ
 writeRecord N ids out =
+    -- 1, N outside 1 to 1,048,576
     (refused 1, out) when badColors N else
+    -- 2, ids not strictly ascending or one not below N
     (refused 2, out) when not (within 0 N ids) else
+    -- 3, output too short
     (refused 3, out) when ltb (length out) (length (recordOf N ids)) else
     (done (length (recordOf N ids) ∷ []), over (recordOf N ids) out)
 
--- how long the record is: 1, 2
+-- how long the record is: its bytes
 unfoldable pub recordLength : ℕ → List ℕ → Answer
 recordLength N ids =
+    -- 1, N outside 1 to 1,048,576
     refused 1 when badColors N else
+    -- 2, ids not strictly ascending or one not below N
     refused 2 when not (within 0 N ids) else
     done (length (recordOf N ids) ∷ [])
 
--- by what was read of `total` bytes: 4, 5, then 3; the ids given and the bytes taken
+-- read record, by what was found in `total` bytes: the ids given and the bytes taken
 unfoldable pub readBy : ReadRecord → ℕ → List ℕ → Answer × List ℕ
+-- 4, of the prefix, or fewer than L bytes left
 readBy short total out = (refused 4, out)
+-- 5, of the prefix, or payload of no set
 readBy damaged total out = (refused 5, out)
 readBy (found ids rest) total out =
+    -- 3, output too short
     (refused 3, out) when ltb (length out) (length ids) else
     (done (length ids ∷ (total - length rest) ∷ []), over ids out)
 
--- read record: 1, then by what was read
+-- read record
 unfoldable pub readInto : ℕ → List ℕ → List ℕ → Answer × List ℕ
-readInto N input out = (refused 1, out) when badColors N else readBy (readRecord N input) (length input) out
-
--- the refusal of a prefix that isn't whole
-abbrev pub upOf : Prefix → Given
-upOf (prefix.Whole n len) = given.Refused refusal.Damaged
-upOf (prefix.Refused r) = given.Refused r
+readInto N input out =
+    -- 1, N outside 1 to 1,048,576
+    (refused 1, out) when badColors N else
+    readBy (readRecord N input) (length input) out
 
 -- two lists of numbers are the same
 unfoldable pub same : List ℕ → List ℕ → Bool

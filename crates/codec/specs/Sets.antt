@@ -1,6 +1,5 @@
--- Sets of ids below N as bits and bytes (section 3).
+-- Section 3 of 01: sets. Ids below N as bits, and the payload of a record.
 use Prim.Native.Nat.{ℕ, zero, suc, _+_, _-_, _*_, _/_, _≤_, _<_}
-use mathlib.Core.Path.{_≡_}
 use mathlib.Core.Bool.{Bool, true, false, not, cond, _&&_}
 use mathlib.Core.List.{List, [], _∷_, _++_, map}
 use lib.ListN.{length, take, drop}
@@ -41,6 +40,7 @@ unfoldable pub gapBits : ℕ → List ℕ → List Bool
 gapBits from [] = []
 gapBits from (x ∷ xs) = delta (x - from) ++ gapBits (x + 1) xs
 
+-- by the number of ids: sparse below N/4, else a bitmap below 3N/4, else dense
 pub data Regime : Type 0 where
   empty sparse bitmap dense : Regime
 

@@ -8,18 +8,18 @@ ghost use lib.ListN.{length, take, drop};
 ghost use Rattle.base.specs.Parts.{over};
 ghost use Rattle.codec.specs.Bits.{bitsOf, lowBits};
 ghost use Rattle.codec.specs.Sets.{Within, mapBits, idsOf};
-ghost use Rattle.codec.specs.Writers.{Ready, Wrote};
-ghost use Rattle.codec.specs.Gaps.{Ahead, BitsAt};
-ghost use Rattle.codec.specs.Bitmaps.{MapOf};
+ghost use Rattle.codec.specs.Inside.Writers.{Ready, Wrote};
+ghost use Rattle.codec.specs.Inside.Gaps.{Ahead, BitsAt};
+ghost use Rattle.codec.specs.Inside.Bitmaps.{MapOf};
 
 // A chunk of the bitmap, and how many ids of the set are passed behind it.
-pub(crate) struct Chunk {
+pub(crate) struct MapChunk {
     pub(crate) word: u64,
     pub(crate) next: usize,
 }
 
 // The bits for the `width` ids from `base` on, of which place `i` of the set is the first.
-pub(crate) fn map_chunk(ids: &[u32], i: usize, base: u32, width: u32, n: u32) -> Chunk
+pub(crate) fn map_chunk(ids: &[u32], i: usize, base: u32, width: u32, n: u32) -> MapChunk
     requires { ⌜ Ahead n (now ids) (record { i = i; from = base }) × (width ≤ 32) × (base + width ≤ n) ⌝ }
     requires { ⌜ n ≤ 2 ^ 20 ⌝ }
     ensures { λ r. ⌜ MapOf n (now (ids .entry)) i base width r ⌝ }
@@ -29,12 +29,12 @@ pub(crate) fn map_chunk(ids: &[u32], i: usize, base: u32, width: u32, n: u32) ->
     while k < ids.len() {
         let id = ids[k];
         if base + width <= id {
-            return Chunk { word, next: k };
+            return MapChunk { word, next: k };
         }
         word += 1u64 << (id - base);
         k += 1;
     }
-    Chunk { word, next: k }
+    MapChunk { word, next: k }
 }
 
 // How many bits the chunk from `base` on has.

@@ -6,8 +6,8 @@ ghost use Prim.Native.Nat.{_+_, _-_, _*_, _/_, _<_, _≤_, _^_};
 ghost use lib.ListN.{length, getD, take, drop};
 ghost use Rattle.base.specs.Parts.{over};
 ghost use Rattle.codec.specs.Bits.{bitsOf, digit, valueOf, lowBits, packBits, AreBytes};
-ghost use Rattle.codec.specs.Windows.{Window};
-ghost use Rattle.codec.specs.Writers.{streamOf, Ready, Wrote};
+ghost use Rattle.codec.specs.Inside.Windows.{Window};
+ghost use Rattle.codec.specs.Inside.Writers.{streamOf, Ready, Wrote};
 
 // A byte as a wide number.
 pub(crate) fn wide(x: u8) -> u64

@@ -5,29 +5,29 @@ ghost use Prim.Native.Nat.{_+_, _-_, _*_, _/_, _%_, _<_, _≤_, _^_};
 ghost use lib.ListN.{length};
 ghost use Rattle.codec.specs.Bits.{lowBits};
 ghost use Rattle.codec.specs.Codes.{highBit, gamma, delta, readLow, readGamma, readDelta};
-ghost use Rattle.codec.specs.Places.{FoundAt};
-ghost use Rattle.codec.specs.Windows.{Window, CodedIn};
-ghost use Rattle.codec.specs.Writers.{Ready, Wrote, WordOf, SplitOf};
+ghost use Rattle.codec.specs.Inside.Places.{ReadCodeAt};
+ghost use Rattle.codec.specs.Inside.Windows.{Window, CodedIn};
+ghost use Rattle.codec.specs.Inside.Writers.{Ready, Wrote, CodewordOf, SplitOf};
 
 // A value and the bit place behind its code, or that none is there that a set needs.
-pub(crate) enum Found {
+pub(crate) enum ReadCode {
     Value { value: u32, next: usize },
     Missing,
 }
 
 // The number whose highest set bit is bit `b` and whose lower bits are those from `at`, less 1.
-pub(crate) fn low_at(bytes: &[u8], at: usize, b: usize) -> Found
+pub(crate) fn low_at(bytes: &[u8], at: usize, b: usize) -> ReadCode
     requires { ⌜ (length (now bytes) < 2 ^ 60) × (at ≤ 8 * length (now bytes)) ⌝ }
-    ensures { λ r. ⌜ FoundAt (readLow b) (now (bytes .entry)) at r ⌝ }
+    ensures { λ r. ⌜ ReadCodeAt (readLow b) (now (bytes .entry)) at r ⌝ }
 {
     if 20 < b {
-        return Found::Missing;
+        return ReadCode::Missing;
     }
     if bytes.len() * 8 - at < b {
-        return Found::Missing;
+        return ReadCode::Missing;
     }
     let low = crate::bits::low_value(bytes, at, b);
-    Found::Value {
+    ReadCode::Value {
         value: (low + (1u64 << b) - 1) as u32,
         next: at + b,
     }
@@ -40,9 +40,9 @@ pub(crate) enum Zeros {
 }
 
 // The value of the gamma code at bit place `at`.
-pub(crate) fn read_gamma(bytes: &[u8], at: usize) -> Found
+pub(crate) fn read_gamma(bytes: &[u8], at: usize) -> ReadCode
     requires { ⌜ length (now bytes) < 2 ^ 60 ⌝ }
-    ensures { λ r. ⌜ FoundAt readGamma (now (bytes .entry)) at r ⌝ }
+    ensures { λ r. ⌜ ReadCodeAt readGamma (now (bytes .entry)) at r ⌝ }
 {
     let mut place = at;
     let zeros = loop {
@@ -55,18 +55,18 @@ pub(crate) fn read_gamma(bytes: &[u8], at: usize) -> Found
         place += 1;
     };
     let Zeros::Count(n) = zeros else {
-        return Found::Missing;
+        return ReadCode::Missing;
     };
     low_at(bytes, at + n + 1, n)
 }
 
 // The value of the delta code at bit place `at`, bit by bit.
-pub(crate) fn delta_at(bytes: &[u8], at: usize) -> Found
+pub(crate) fn delta_at(bytes: &[u8], at: usize) -> ReadCode
     requires { ⌜ length (now bytes) < 2 ^ 60 ⌝ }
-    ensures { λ r. ⌜ FoundAt readDelta (now (bytes .entry)) at r ⌝ }
+    ensures { λ r. ⌜ ReadCodeAt readDelta (now (bytes .entry)) at r ⌝ }
 {
-    let Found::Value { value, next } = read_gamma(bytes, at) else {
-        return Found::Missing;
+    let ReadCode::Value { value, next } = read_gamma(bytes, at) else {
+        return ReadCode::Missing;
     };
     low_at(bytes, next, value as usize)
 }
@@ -107,10 +107,10 @@ pub(crate) fn delta_of(w: u64) -> Coded
 
 // The value of the delta code at bit place `at`, among the last eight bytes, which `last` shows. Where
 // it doesn't show a code whole, the plain reader decides.
-pub(crate) fn last_delta(bytes: &[u8], last: u64, at: usize) -> Found
+pub(crate) fn last_delta(bytes: &[u8], last: u64, at: usize) -> ReadCode
     requires { ⌜ (length (now bytes) < 2 ^ 60) × (length (now bytes) < at / 8 + 8) ⌝ }
     requires { ⌜ Window (now bytes) (length (now bytes) - 8) last ⌝ }
-    ensures { λ r. ⌜ FoundAt readDelta (now (bytes .entry)) at r ⌝ }
+    ensures { λ r. ⌜ ReadCodeAt readDelta (now (bytes .entry)) at r ⌝ }
 {
     let end = bytes.len() * 8;
     if end <= at {
@@ -123,17 +123,17 @@ pub(crate) fn last_delta(bytes: &[u8], last: u64, at: usize) -> Found
     if end < at + count {
         return delta_at(bytes, at);
     }
-    Found::Value {
+    ReadCode::Value {
         value,
         next: at + count,
     }
 }
 
 // The value of the delta code at bit place `at`: one load where eight bytes are left, none behind.
-pub(crate) fn next_delta(bytes: &[u8], last: u64, at: usize) -> Found
+pub(crate) fn next_delta(bytes: &[u8], last: u64, at: usize) -> ReadCode
     requires { ⌜ length (now bytes) < 2 ^ 60 ⌝ }
     requires { ⌜ Window (now bytes) (length (now bytes) - 8) last ⌝ }
-    ensures { λ r. ⌜ FoundAt readDelta (now (bytes .entry)) at r ⌝ }
+    ensures { λ r. ⌜ ReadCodeAt readDelta (now (bytes .entry)) at r ⌝ }
 {
     let k = at / 8;
     if bytes.len() < k + 8 {
@@ -143,22 +143,22 @@ pub(crate) fn next_delta(bytes: &[u8], last: u64, at: usize) -> Found
     let Coded::Code { value, count } = delta_of(w) else {
         return delta_at(bytes, at);
     };
-    Found::Value {
+    ReadCode::Value {
         value,
         next: at + count,
     }
 }
 
 // The value of the delta code at bit place `at`, where one is read alone.
-pub(crate) fn read_delta(bytes: &[u8], at: usize) -> Found
+pub(crate) fn read_delta(bytes: &[u8], at: usize) -> ReadCode
     requires { ⌜ length (now bytes) < 2 ^ 60 ⌝ }
-    ensures { λ r. ⌜ FoundAt readDelta (now (bytes .entry)) at r ⌝ }
+    ensures { λ r. ⌜ ReadCodeAt readDelta (now (bytes .entry)) at r ⌝ }
 {
     next_delta(bytes, crate::bits::last_word(bytes), at)
 }
 
 // A code as a number and its count of bits, lowest first.
-pub(crate) struct Word {
+pub(crate) struct Codeword {
     pub(crate) value: u64,
     pub(crate) count: u32,
 }
@@ -248,13 +248,13 @@ fn gamma_value(v: u32) -> u64
 }
 
 // The delta code of `v`.
-pub(crate) fn delta_word(v: u32) -> Word
+pub(crate) fn delta_word(v: u32) -> Codeword
     requires { ⌜ v ≤ 2 ^ 20 ⌝ }
-    ensures { λ r. ⌜ WordOf r (delta v) × (r .count ≤ 29) ⌝ }
+    ensures { λ r. ⌜ CodewordOf r (delta v) × (r .count ≤ 29) ⌝ }
 {
     let s = split_top(v + 1);
     let count = top_len(s.bit);
-    Word {
+    Codeword {
         value: gamma_value(s.bit) + (s.low << (count - s.bit)),
         count,
     }

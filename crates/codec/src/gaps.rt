@@ -1,6 +1,6 @@
 // Ids as the distances between them. A sparse set codes its own ids so, a dense set those absent.
 use crate::bits::BitWriter;
-use crate::codes::Found;
+use crate::codes::ReadCode;
 ghost use mathlib.Core.Path.{_≡_};
 ghost use mathlib.Core.List.{_++_};
 ghost use Prim.Native.Nat.{_+_, _-_, _*_, _<_, _≤_, _^_};
@@ -9,9 +9,9 @@ ghost use Rattle.base.specs.Parts.{over};
 ghost use lib.Dec.{eqb};
 ghost use Rattle.codec.specs.Bits.{bitsOf, digit};
 ghost use Rattle.codec.specs.Sets.{Within, gapBits, readGaps, absent};
-ghost use Rattle.codec.specs.Writers.{Ready, Wrote};
+ghost use Rattle.codec.specs.Inside.Writers.{Ready, Wrote};
 ghost use mathlib.Core.Bool.{true, false};
-ghost use Rattle.codec.specs.Gaps.{codedIds, numbers, Ahead, upIn, Skipped, Gave, IdsAt, BitsAt, Accepted, Put, Kept, idsIn};
+ghost use Rattle.codec.specs.Inside.Gaps.{codedIds, numbers, Ahead, upIn, Skipped, Gave, IdsAt, BitsAt, Accepted, Put, Kept, idsIn};
 
 // A place in the ids to code: `i` ids of the set are passed, and the next coded id is `from` or more.
 pub(crate) struct Cursor {
@@ -19,7 +19,7 @@ pub(crate) struct Cursor {
     pub(crate) from: u32,
 }
 
-pub(crate) enum Next {
+pub(crate) enum NextId {
     Id { id: u32, next: Cursor },
     End,
 }
@@ -81,7 +81,7 @@ pub(crate) fn skip_present(ids: &[u32], i: usize, from: u32, n: u32) -> usize
 }
 
 // The next id to code.
-pub(crate) fn next_coded(ids: &[u32], n: u32, dense: bool, c: Cursor) -> Next
+pub(crate) fn next_coded(ids: &[u32], n: u32, dense: bool, c: Cursor) -> NextId
     requires { ⌜ Ahead n (now ids) c ⌝ }
     ensures { λ r. ⌜ Gave dense n (now (ids .entry)) c r ⌝ }
 {
@@ -91,9 +91,9 @@ pub(crate) fn next_coded(ids: &[u32], n: u32, dense: bool, c: Cursor) -> Next
         let k = skip_present(ids, i, from, n);
         let id = from + k as u32;
         if n <= id {
-            return Next::End;
+            return NextId::End;
         }
-        return Next::Id {
+        return NextId::Id {
             id,
             next: Cursor {
                 i: i + k,
@@ -102,10 +102,10 @@ pub(crate) fn next_coded(ids: &[u32], n: u32, dense: bool, c: Cursor) -> Next
         };
     }
     if ids.len() <= i {
-        return Next::End;
+        return NextId::End;
     }
     let id = ids[i];
-    Next::Id {
+    NextId::Id {
         id,
         next: Cursor {
             i: i + 1,
@@ -208,10 +208,10 @@ pub(crate) fn same_gaps(bytes: &[u8], at: usize, ids: &[u32], n: u32, dense: boo
     let mut place = at;
     loop {
         let from = c.from;
-        let Next::Id { id, next } = next_coded(ids, n, dense, c) else {
+        let NextId::Id { id, next } = next_coded(ids, n, dense, c) else {
             return Checked::Good { next: place };
         };
-        let Found::Value {
+        let ReadCode::Value {
             value,
             next: behind,
         } = crate::codes::next_delta(bytes, last, place)
@@ -247,7 +247,7 @@ pub(crate) fn read_gaps(bytes: &[u8], at: usize, n: usize, top: u32, room: &mut 
     let mut from: u32 = 0;
     let mut i: usize = 0;
     while i < n {
-        let Found::Value { value, next } = crate::codes::next_delta(bytes, last, place) else {
+        let ReadCode::Value { value, next } = crate::codes::next_delta(bytes, last, place) else {
             return Checked::Bad;
         };
         if top - from <= value {
@@ -352,7 +352,7 @@ pub(crate) fn fill_uncoded(bytes: &[u8], at: usize, n: usize, top: u32, out: &mu
     let mut k: usize = 0;
     let mut i: usize = 0;
     while i < n {
-        let Found::Value { value, next } = crate::codes::next_delta(bytes, last, place) else {
+        let ReadCode::Value { value, next } = crate::codes::next_delta(bytes, last, place) else {
             return;
         };
         let id = from + value;

@@ -9,7 +9,7 @@ ghost use lib.ListN.{length};
 ghost use Rattle.base.specs.Answers.{done, ofMade};
 ghost use Rattle.base.specs.Parts.{over};
 ghost use Rattle.codec.specs.Index.{indexOf, makeIndex};
-ghost use Rattle.codec.specs.Indexes.{SteppedAt, upOf, madeOf, outcome, entriesIn};
+ghost use Rattle.codec.specs.Inside.Indexes.{SteppedAt, upStep, madeOf, outcome, entriesIn};
 
 // The place behind a record, or why none is there.
 enum Step {
@@ -19,7 +19,7 @@ enum Step {
 
 // A prefix that isn't whole passes its refusal straight up.
 fn passed_up(prefix: Prefix) -> Step
-    ensures { λ r. ⌜ r ≡ upOf prefix ⌝ }
+    ensures { λ r. ⌜ r ≡ upStep prefix ⌝ }
 {
     match prefix {
         Prefix::Whole { value: _, len: _ } => Step::Refused(Refusal::Damaged),

@@ -6,7 +6,8 @@ ghost use Prim.Native.Nat.{_+_, _*_, _<_, _≤_, _^_};
 ghost use lib.ListN.{length};
 ghost use Rattle.base.specs.Answers.{ofWritten};
 ghost use Rattle.base.specs.Parts.{over};
-ghost use Rattle.codec.specs.Prefix.{prefixOf, readPrefix, prefixIn, lastOf, writePrefix};
+ghost use Rattle.codec.specs.Prefix.{prefixOf, readPrefix, ofPrefix, prefixIn, writePrefix};
+ghost use Rattle.codec.specs.Inside.Prefixes.{lastOf};
 
 // A number and the count of its bytes, or why none is there.
 pub enum Prefix {
@@ -17,7 +18,7 @@ pub enum Prefix {
 // The last group `b` behind `i` groups of value `low`.
 fn last_group(low: u64, b: u64, i: usize) -> Prefix
     requires { ⌜ (low < 2 ^ (7 * i)) × (b < 128) × (i < 5) ⌝ }
-    ensures { λ r. ⌜ r ≡ lastOf low b i ⌝ }
+    ensures { λ r. ⌜ ofPrefix r ≡ lastOf low b i ⌝ }
 {
     let v = low + (b << (7 * i));
     if 4294967295 < v {
@@ -36,7 +37,7 @@ fn last_group(low: u64, b: u64, i: usize) -> Prefix
 
 // The length prefix at the front of the bytes.
 pub fn read_varint_len(bytes: &[u8]) -> Prefix
-    ensures { λ r. ⌜ r ≡ prefixIn (length (now (bytes .entry))) (readPrefix (now (bytes .entry))) ⌝ }
+    ensures { λ r. ⌜ ofPrefix r ≡ prefixIn (length (now (bytes .entry))) (readPrefix (now (bytes .entry))) ⌝ }
 {
     let mut value: u64 = 0;
     let mut i: usize = 0;

@@ -11,7 +11,8 @@ ghost use Prim.Native.Nat.{_+_, _≤_, _<_, _^_};
 ghost use lib.ListN.{length, drop};
 ghost use Rattle.base.specs.Answers.{ofWritten, ofGiven};
 ghost use Rattle.base.specs.Parts.{over};
-ghost use Rattle.codec.specs.Records.{badColors, recordOf, writeRecord, recordLength, readBy, afterPrefix, readInto, isRecord, upOf};
+ghost use Rattle.codec.specs.Records.{badColors, recordOf, writeRecord, recordLength, readBy, afterPrefix, readInto, isRecord};
+ghost use Rattle.codec.specs.Inside.Prefixes.{upGiven};
 ghost use Rattle.codec.specs.Prefix.{whole};
 ghost use Rattle.codec.specs.Sets.{Within, encodeSet};
 
@@ -94,7 +95,7 @@ pub fn write_color_record(n: u32, ids: &[u32], out: &mut [u8]) -> Written
 
 // A prefix that isn't whole passes its refusal straight up.
 fn passed_up(prefix: Prefix) -> Given
-    ensures { λ r. ⌜ r ≡ upOf prefix ⌝ }
+    ensures { λ r. ⌜ r ≡ upGiven prefix ⌝ }
 {
     match prefix {
         Prefix::Whole { value: _, len: _ } => Given::Refused(Refusal::Damaged),

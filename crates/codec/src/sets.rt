@@ -1,6 +1,6 @@
 // Payloads: a set's length, then its ids by one of three regimes.
 use crate::bits::BitWriter;
-use crate::codes::Found;
+use crate::codes::ReadCode;
 use crate::gaps::Checked;
 ghost use mathlib.Core.Path.{_≡_};
 ghost use mathlib.Core.Bool.{_&&_};
@@ -10,15 +10,15 @@ ghost use lib.ListN.{length, getD, drop};
 ghost use Rattle.base.specs.Parts.{over};
 ghost use Rattle.codec.specs.Bits.{bitsOf, AreBytes};
 ghost use Rattle.codec.specs.Sets.{Within, within, regime, dense, bodyBits, setBits, encodeSet, readMap, readBody, padding, decodeSet};
-ghost use Rattle.codec.specs.Writers.{Ready, Wrote};
-ghost use Rattle.codec.specs.Gaps.{IdsAt, BitsAt};
-ghost use Rattle.codec.specs.Payloads.{falls, regimeOf, PayloadOf, KeptBy, KeptOf, setIds, givesSet};
+ghost use Rattle.codec.specs.Inside.Writers.{Ready, Wrote};
+ghost use Rattle.codec.specs.Inside.Gaps.{IdsAt, BitsAt};
+ghost use Rattle.codec.specs.Inside.Payloads.{hasFall, regimeOf, PayloadOf, KeptBy, KeptOf, setIds, givesSet};
 
 // Whether an id is not above the one before it. There is no early way out, so that several ids are
 // compared at a time.
 fn has_fall(ids: &[u32]) -> bool
     requires { ⌜ 0 < length (now ids) ⌝ }
-    ensures { λ r. ⌜ r ≡ falls (getD (now (ids .entry)) 0 0) (drop 1 (now (ids .entry))) ⌝ }
+    ensures { λ r. ⌜ r ≡ hasFall (getD (now (ids .entry)) 0 0) (drop 1 (now (ids .entry))) ⌝ }
 {
     let mut found = false;
     let mut i: usize = 1;
@@ -178,7 +178,7 @@ pub(crate) fn check_set(n: u32, payload: &[u8], room: &mut [u32]) -> Payload
     requires { ⌜ (length (now payload) < 2 ^ 60) × (n ≤ 2 ^ 20) ⌝ }
     ensures { λ r. ⌜ PayloadOf n (now (payload .entry)) r × KeptOf n (now (payload .entry)) r (now (room .exit)) ⌝ }
 {
-    let Found::Value { value, next } = crate::reader::first_delta(payload) else {
+    let ReadCode::Value { value, next } = crate::reader::first_delta(payload) else {
         return Payload::NoIds;
     };
     let Checked::Good { next: behind } = check_body(n, payload, value as usize, next, room) else {
@@ -233,7 +233,7 @@ pub(crate) fn same_set(n: u32, ids: &[u32], payload: &[u8]) -> bool
     requires { ⌜ Within 0 n (now ids) × (n ≤ 2 ^ 20) × (length (now payload) < 2 ^ 60) ⌝ }
     ensures { λ r. ⌜ r ≡ givesSet (decodeSet n (now (payload .entry))) (now (ids .entry)) ⌝ }
 {
-    let Found::Value { value, next } = crate::reader::first_delta(payload) else {
+    let ReadCode::Value { value, next } = crate::reader::first_delta(payload) else {
         return false;
     };
     if value as usize != ids.len() {

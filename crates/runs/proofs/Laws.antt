@@ -16,4 +16,4 @@ pub mod Starts
 pub mod Bytes
 pub mod Widths
 pub mod Claims
-pub mod Cases
+pub mod Readings

@@ -1,15 +1,15 @@
--- A piece behind an output: the piece's first vertex is the output's last (section 6).
-use Prim.Native.Nat.{ℕ, _+_, _-_, _≤_, _<_}
+-- Section 6 of 01: append. A piece behind an output: the piece's first vertex is the output's last.
+use Prim.Native.Nat.{ℕ, _+_, _-_}
 use mathlib.Core.Bool.{Bool, not, _||_, _&&_}
 use mathlib.Core.List.{List, [], _∷_, _++_, map}
-use lib.ListN.{length, take, drop, getD}
+use lib.ListN.{length, take, drop}
 use lib.Dec.{ltb, eqb}
 use Rattle.base.specs.Tests.{_when_else_}
 use Rattle.base.specs.Answers.{Answer, refused, done, numberOf}
 use Rattle.base.specs.Parts.{over}
 use Rattle.runs.specs.Words.{offset, coordinate, pack}
 use Rattle.runs.specs.Colours.{lastRun, firstCoord, lastCoord}
-use Rattle.runs.specs.Orders.{mostVertices, steady, sharp, Taken}
+use Rattle.runs.specs.Orders.{mostVertices, steady, sharp}
 use Rattle.runs.specs.Reverse.{oriented}
 use Rattle.runs.specs.declared.append.Appended.{Appended}
 use Rattle.runs.specs.declared.append.Appended.the-variants.{Done, Refused}
@@ -25,10 +25,6 @@ shift k w = pack (offset w + k) (coordinate w)
 
 unfoldable pub shifted : ℕ → List ℕ → List ℕ
 shifted k ws = map (shift k) ws
-
--- each run can be moved k vertices further on
-abbrev pub Movable : ℕ → List ℕ → Type 0
-Movable k ws = (i : ℕ) → i < length ws → offset (getD ws i 0) + k < 16777216
 
 -- how many runs are dropped behind an output that ends on coordinate c: the piece's first, where it has the same
 unfoldable pub skip : ℕ → List ℕ → ℕ
@@ -49,26 +45,22 @@ badCounts a b = eqb a 0 || (eqb b 0 || ltb mostVertices (a + b - 1))
 unfoldable pub joinable : ℕ → List ℕ → Bool
 joinable n ws = not (eqb (length ws) 0) && (steady n ws && ltb (offset (lastRun ws)) n)
 
--- an output of `used` runs and `a` vertices, and a piece of b, that are as admitted
-pub record Admitted (out : List ℕ) (used a : ℕ) (piece : List ℕ) (b : ℕ) : Type 0 where
-  pub fits : used ≤ length out
-  pub some : 0 < used
-  pub left : 0 < a
-  pub right : 0 < b
-  pub sum : a + b - 1 ≤ mostVertices
-  pub first : 0 < length piece
-  pub taken : Taken b piece
-
+-- the new list in the output's front, its number of runs and the new vertex count
 unfoldable pub resultInto : List ℕ → ℕ → List ℕ → Answer × List ℕ
 resultInto result count out =
+    -- 3, output too short
     (refused 3, out) when ltb (length out) (length result) else
     (done (length result ∷ count ∷ []), over result out)
 
--- behind the `used` runs that the output has: 3, 7, 6 of the output, 6 of the piece, 3
+-- append behind the `used` runs that the output has
 unfoldable pub appendInto : List ℕ → ℕ → ℕ → List ℕ → ℕ → Bool → Answer × List ℕ
 appendInto out used count piece n reversed =
+    -- 3, the output is said to have more runs than its buffer holds
     (refused 3, out) when ltb (length out) used else
+    -- 7, a count 0 or new count above 16,777,215
     (refused 7, out) when badCounts count n else
+    -- 6, the output not as admitted
     (refused 6, out) when not (joinable count (take used out)) else
+    -- 6, the piece not as admitted
     (refused 6, out) when not (sharp n piece) else
     resultInto (appendRuns (take used out) count piece n reversed) (count + n - 1) out

@@ -1,19 +1,14 @@
--- Run bytes: a LEB128 count, then 8 bytes a run, low first (section 6).
+-- Section 6 of 01: run bytes. A LEB128 count, then 8 bytes a run, low first.
 use Prim.Native.Nat.{ℕ, zero, suc, _+_, _-_, _*_, _/_, _%_}
-use mathlib.Core.Bool.{Bool, false, not}
+use mathlib.Core.Bool.{Bool, not}
 use mathlib.Core.List.{List, [], _∷_, _++_}
 use lib.ListN.{length, take, drop}
-use lib.Dec.{ltb}
+use lib.Dec.{leb, ltb}
 use Rattle.base.specs.Tests.{_when_else_}
-use Rattle.base.specs.Answers.{Answer, refused, done}
+use Rattle.base.specs.Answers.{Answer, refused, done, numberOf}
 use Rattle.base.specs.Parts.{over}
-use Rattle.base.specs.declared.Refusal.the-variants as refusal
-use Rattle.base.specs.declared.Given.{Given}
-use Rattle.base.specs.declared.Given.the-variants as given
 use Rattle.codec.specs.Flat.{flat}
 use Rattle.codec.specs.Prefix.{prefixOf, ReadLeb, whole, cut, bad, readPrefix}
-use Rattle.codec.specs.declared.prefix.Prefix.{Prefix}
-use Rattle.codec.specs.declared.prefix.Prefix.the-variants as prefix
 use Rattle.runs.specs.Colours.{colourAt}
 use Rattle.runs.specs.Orders.{mostVertices, steady, sharp}
 use Rattle.runs.specs.Rotate.{rotateRuns}
@@ -37,7 +32,7 @@ unfoldable pub words : ℕ → List ℕ → List ℕ
 words zero bytes = []
 words (suc k) bytes = leValue (take 8 bytes) ∷ words k (drop 8 bytes)
 
--- what reading runs finds: the runs and the bytes behind them, that bytes are missing (4), or a count of no written form (5)
+-- what reading runs finds: the runs and the bytes behind them, that bytes are missing, or a count of no written form
 pub data ReadRuns : Type 0 where
   found : List ℕ → List ℕ → ReadRuns
   short : ReadRuns
@@ -53,61 +48,58 @@ readRuns bytes = afterCount (readPrefix bytes)
 
 -- ---- what the functions answer
 
--- how many bytes: 6
-unfoldable pub sizeOfRuns : List ℕ → Answer
-sizeOfRuns ws = refused 6 when ltb 4294967295 (length ws) else done (length (runBytes ws) ∷ [])
-
--- write runs: 6, 3
+-- write runs: the bytes written
 unfoldable pub writeRuns : List ℕ → List ℕ → Answer × List ℕ
 writeRuns ws out =
+    -- 6, more than 4,294,967,295 runs
     (refused 6, out) when ltb 4294967295 (length ws) else
+    -- 3, output too short
     (refused 3, out) when ltb (length out) (length (runBytes ws)) else
     (done (length (runBytes ws) ∷ []), over (runBytes ws) out)
 
--- read runs: 4 or 5 of the count, 4, 3; the runs given and the bytes taken
+-- read runs, by what was found in `total` bytes: the runs given and the bytes taken
 unfoldable pub givenIn : ℕ → ReadRuns → List ℕ → Answer × List ℕ
 givenIn total (found ws rest) out =
+    -- 3, output too short
     (refused 3, out) when ltb (length out) (length ws) else
     (done (length ws ∷ (total - length rest) ∷ []), over ws out)
+-- 4, of the prefix, or runs cut short
 givenIn total short out = (refused 4, out)
+-- 5, of the prefix
 givenIn total damaged out = (refused 5, out)
 
-abbrev pub readInto : List ℕ → List ℕ → Answer × List ℕ
-readInto bytes out = givenIn (length bytes) (readRuns bytes) out
+abbrev pub readRunsInto : List ℕ → List ℕ → Answer × List ℕ
+readRunsInto bytes out = givenIn (length bytes) (readRuns bytes) out
 
--- the turned cycle as run bytes: 7, 6, and what writing the runs answers
-unfoldable pub sizeOfRotated : List ℕ → ℕ → ℕ → Bool → Answer
-sizeOfRotated ws n pivot reversed =
-    refused 7 when ltb mostVertices n else
-    refused 6 when not (steady n ws) else
-    sizeOfRuns (rotateRuns n pivot reversed ws)
-
+-- the turned cycle as run bytes: rotate's refusals, then what writing the runs answers
 unfoldable pub writeRotated : List ℕ → ℕ → ℕ → Bool → List ℕ → Answer × List ℕ
 writeRotated ws n pivot reversed out =
+    -- 7, n above 16,777,215
     (refused 7, out) when ltb mostVertices n else
+    -- 6, not steady
     (refused 6, out) when not (steady n ws) else
     writeRuns (rotateRuns n pivot reversed ws) out
 
--- run bytes of a list that is sharp for n
-abbrev pub sharpIn : ℕ → ReadRuns → Bool
-sharpIn n (found ws rest) = sharp n ws
-sharpIn n short = false
-sharpIn n damaged = false
+-- ---- the coordinate of a vertex
 
-abbrev pub sharpBytes : ℕ → List ℕ → Bool
-sharpBytes n bytes = sharpIn n (readRuns bytes)
+-- in the numbers of 01
+abbrev pub ofColored : Colored → Answer
+ofColored (At coord) = done (coord ∷ [])
+ofColored (Refused r) = refused (numberOf r)
 
--- the coordinate of a vertex in a list of run bytes
-abbrev pub colourIn : ℕ → ReadRuns → Colored
-colourIn vertex (found ws rest) = At (colourAt vertex ws)
-colourIn vertex short = Refused refusal.Cut
-colourIn vertex damaged = Refused refusal.Damaged
+-- by the list that is found in run bytes
+unfoldable pub sharpColourIn : ℕ → ℕ → ReadRuns → Answer
+sharpColourIn n vertex (found ws rest) =
+    -- 6, not sharp
+    refused 6 when not (sharp n ws) else
+    done (colourAt vertex ws ∷ [])
+-- 4 and 5 as in read runs
+sharpColourIn n vertex short = refused 4
+sharpColourIn n vertex damaged = refused 5
 
--- the refusal of a count that isn't whole
-abbrev pub upOf : Prefix → Given
-upOf (prefix.Whole k len) = given.Refused refusal.Damaged
-upOf (prefix.Refused r) = given.Refused r
-
-abbrev pub unreadOf : Prefix → Colored
-unreadOf (prefix.Whole k len) = Refused refusal.Damaged
-unreadOf (prefix.Refused r) = Refused r
+-- the coordinate of a vertex of n, by the run bytes of a list that is sharp for n
+unfoldable pub sharpColour : ℕ → ℕ → List ℕ → Answer
+sharpColour n vertex bytes =
+    -- 14, no such vertex
+    refused 14 when leb n vertex else
+    sharpColourIn n vertex (readRuns bytes)

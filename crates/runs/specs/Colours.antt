@@ -1,4 +1,4 @@
--- What a list of runs says of n vertices.
+-- Section 6 of 01: colours. What a list of runs says of n vertices.
 use Prim.Native.Nat.{ℕ, suc, _-_}
 use mathlib.Core.List.{List, [], _∷_, _++_, map}
 use lib.ListN.{length, drop, getD, replicate}

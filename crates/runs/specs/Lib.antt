@@ -1,4 +1,4 @@
--- Run lists: what a reader of the contracts has to believe.
+-- Section 6 of 01, run lists: what a reader of the contracts has to believe.
 pub mod Words
 pub mod Colours
 pub mod Orders
@@ -6,7 +6,5 @@ pub mod Reverse
 pub mod Append
 pub mod Rotate
 pub mod Bytes
--- What the functions inside the crate say of a place in a turned cycle.
-pub mod Cursor
--- What they say of a list that is being reversed in its own place.
-pub mod Swap
+-- What serves the functions inside the crate and their proofs; no public contract rests on it alone.
+pub mod Inside

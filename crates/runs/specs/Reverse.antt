@@ -1,4 +1,4 @@
--- Runs from the other end of the unitig (section 6).
+-- Section 6 of 01: reverse. Runs from the other end of the unitig.
 use Prim.Native.Nat.{ℕ, _-_}
 use mathlib.Core.Bool.{Bool, true, false, not}
 use mathlib.Core.List.{List, [], _∷_, _++_}
@@ -26,9 +26,11 @@ orientInto ws n reversed out = listInto n ws (oriented reversed n ws) out
 abbrev pub reverseInto : List ℕ → ℕ → List ℕ → Answer × List ℕ
 reverseInto ws n out = listInto n ws (reverseRuns n ws) out
 
--- in place the list is its own output: 7, 6
+-- in place the list is its own output
 unfoldable pub reverseInPlace : List ℕ → ℕ → Answer × List ℕ
 reverseInPlace ws n =
+    -- 7, n above 16,777,215
     (refused 7, ws) when ltb mostVertices n else
+    -- 6, not steady
     (refused 6, ws) when not (steady n ws) else
     (done (length ws ∷ []), reverseRuns n ws)

@@ -1,4 +1,4 @@
--- A cycle begun at another vertex (section 6).
+-- Section 6 of 01: rotate. A cycle begun at another vertex.
 use Prim.Native.Nat.{ℕ, _+_, _%_}
 use mathlib.Core.Bool.{Bool, true, false}
 use mathlib.Core.List.{List, [], _∷_, _++_, map}
@@ -11,8 +11,8 @@ use Rattle.runs.specs.Orders.{listInto}
 use Rattle.runs.specs.Reverse.{oriented}
 
 -- turned left by k: the colours from vertex k on, then those before it
-abbrev pub turn : ℕ → List ℕ → List ℕ
-turn k cs = drop k cs ++ take k cs
+abbrev pub turnLeft : ℕ → List ℕ → List ℕ
+turnLeft k cs = drop k cs ++ take k cs
 
 -- the vertices from `at` on, behind one of colour c, that are unlike the one before
 abbrev pub unless : Bool → ℕ → List ℕ → List ℕ
@@ -38,7 +38,7 @@ merged cs = runsAt cs (firsts cs)
 
 -- the list, reversed first where wished, has its colours turned left by pivot mod n, equal neighbours merged
 unfoldable pub rotateRuns : ℕ → ℕ → Bool → List ℕ → List ℕ
-rotateRuns n pivot reversed ws = merged (turn (pivot % n) (colours n (oriented reversed n ws)))
+rotateRuns n pivot reversed ws = merged (turnLeft (pivot % n) (colours n (oriented reversed n ws)))
 
 abbrev pub rotateInto : List ℕ → ℕ → ℕ → Bool → List ℕ → Answer × List ℕ
 rotateInto ws n pivot reversed out = listInto n ws (rotateRuns n pivot reversed ws) out

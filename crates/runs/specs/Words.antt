@@ -1,4 +1,4 @@
--- A run is 64 bits: the low 24 are its offset, its first vertex, the high 40 its coordinate (section 6).
+-- Section 6 of 01: a run. 64 bits: the low 24 are its offset, its first vertex, the high 40 its coordinate.
 use Prim.Native.Nat.{ℕ, _+_, _*_, _/_, _%_, _^_, _<_}
 use mathlib.Core.List.{List}
 use lib.ListN.{getD}

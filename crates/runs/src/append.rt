@@ -8,9 +8,10 @@ ghost use Prim.Native.Nat.{_+_, _-_, _<_, _≤_};
 ghost use lib.Seq.{paste};
 ghost use lib.ListN.{length, take, drop};
 ghost use Rattle.runs.specs.Colours.{lastCoord};
-ghost use Rattle.runs.specs.Orders.{Taken};
+ghost use Rattle.runs.specs.Inside.Lists.{Taken};
 ghost use Rattle.runs.specs.Reverse.{oriented};
-ghost use Rattle.runs.specs.Append.{ofAppended, shifted, skip, appendRuns, badCounts, joinable, Admitted, resultInto, appendInto};
+ghost use Rattle.runs.specs.Append.{ofAppended, shifted, skip, appendRuns, badCounts, joinable, resultInto, appendInto};
+ghost use Rattle.runs.specs.Inside.Pieces.{Admitted};
 
 // How many runs and vertices the output has now.
 pub enum Appended {

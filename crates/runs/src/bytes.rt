@@ -15,10 +15,13 @@ ghost use Rattle.base.specs.Parts.{over};
 ghost use Rattle.codec.specs.Flat.{flat};
 ghost use Rattle.codec.specs.Prefix.{prefixOf, whole};
 ghost use Rattle.runs.specs.Colours.{colourAt};
-ghost use Rattle.runs.specs.Orders.{Taken, sharp};
+ghost use Rattle.runs.specs.Orders.{sharp};
+ghost use Rattle.runs.specs.Inside.Lists.{Taken};
 ghost use Rattle.runs.specs.Reverse.{oriented};
-ghost use Rattle.runs.specs.Cursor.{ahead};
-ghost use Rattle.runs.specs.Bytes.{leBytes, leValue, runBytes, words, sizeOfRuns, writeRuns, givenIn, afterCount, readRuns, readInto, sizeOfRotated, writeRotated, sharpIn, sharpBytes, colourIn, upOf, unreadOf};
+ghost use Rattle.runs.specs.Inside.Cursor.{runsFromStep};
+ghost use Rattle.runs.specs.Bytes.{leBytes, leValue, runBytes, words, writeRuns, givenIn, afterCount, readRuns, readRunsInto, writeRotated, ofColored, sharpColourIn, sharpColour};
+ghost use Rattle.codec.specs.Inside.Prefixes.{upGiven};
+ghost use Rattle.runs.specs.Inside.Prefixes.{upColored};
 
 // The coordinate of a vertex.
 pub enum Colored {
@@ -56,16 +59,6 @@ fn bytes_for(count: usize) -> usize
     codec::prefix::varint_len(count as u32) + 8 * count
 }
 
-// How many bytes a list takes.
-pub fn run_bytes_len(runs: &[u64]) -> Written
-    ensures { λ r. ⌜ ofWritten r ≡ sizeOfRuns (now (runs .entry)) ⌝ }
-{
-    if 4294967295 < runs.len() {
-        return Written::Refused(Refusal::Runs);
-    }
-    Written::Done(bytes_for(runs.len()))
-}
-
 // The runs, eight bytes each, to the front of `out`.
 fn fill_bytes(runs: &[u64], out: &mut [u8])
     requires { ⌜ 8 * length (now runs) ≤ length (now out) ⌝ }
@@ -99,8 +92,8 @@ pub fn write_unitig_color_runs(runs: &[u64], out: &mut [u8]) -> Written
 // The turned cycle's `count` runs, eight bytes each, to the front of `out`.
 fn fill_turned_bytes(runs: &[u64], n: u32, p: u32, reversed: bool, count: usize, out: &mut [u8])
     requires { ⌜ Taken n (now runs) × (p ≤ n) × (8 * count ≤ length (now out)) ⌝ }
-    requires { ⌜ count ≡ length (ahead n p (oriented reversed n (now runs)) 0 0) ⌝ }
-    ensures { λ _. ⌜ now (out .exit) ≡ over (flat (leBytes 8) (ahead n p (oriented reversed n (now (runs .entry))) 0 0)) (now (out .entry)) ⌝ }
+    requires { ⌜ count ≡ length (runsFromStep n p (oriented reversed n (now runs)) 0 0) ⌝ }
+    ensures { λ _. ⌜ now (out .exit) ≡ over (flat (leBytes 8) (runsFromStep n p (oriented reversed n (now (runs .entry))) 0 0)) (now (out .entry)) ⌝ }
 {
     let mut j: usize = 0;
     let mut colour: u64 = 0;
@@ -113,20 +106,6 @@ fn fill_turned_bytes(runs: &[u64], n: u32, p: u32, reversed: bool, count: usize,
         j = s + 1;
         i += 1;
     }
-}
-
-// How many bytes the turned cycle takes.
-pub fn rotated_len(runs: &[u64], n: u32, pivot: u32, reversed: bool) -> Written
-    ensures { λ r. ⌜ ofWritten r ≡ sizeOfRotated (now (runs .entry)) n pivot reversed ⌝ }
-{
-    if 16777215 < n {
-        return Written::Refused(Refusal::Vertices);
-    }
-    if !orders::is_steady(runs, n) {
-        return Written::Refused(Refusal::Runs);
-    }
-    let p = rotate::pivot_of(pivot, n);
-    Written::Done(bytes_for(rotate::count_turned(runs, n, p, reversed)))
 }
 
 // The list, reversed first where wished, turned left by pivot mod n, as bytes to the front of `out`. The turned list stands nowhere else.
@@ -158,8 +137,8 @@ pub fn write_rotated_runs(
 // The turned cycle's `count` runs as bytes to the front of `out`.
 fn write_turned(runs: &[u64], n: u32, p: u32, reversed: bool, count: usize, out: &mut [u8])
     requires { ⌜ Taken n (now runs) × (p ≤ n) × (count < 4294967296) × (length (prefixOf count) + 8 * count ≤ length (now out)) ⌝ }
-    requires { ⌜ count ≡ length (ahead n p (oriented reversed n (now runs)) 0 0) ⌝ }
-    ensures { λ _. ⌜ now (out .exit) ≡ over (runBytes (ahead n p (oriented reversed n (now (runs .entry))) 0 0)) (now (out .entry)) ⌝ }
+    requires { ⌜ count ≡ length (runsFromStep n p (oriented reversed n (now runs)) 0 0) ⌝ }
+    ensures { λ _. ⌜ now (out .exit) ≡ over (runBytes (runsFromStep n p (oriented reversed n (now (runs .entry))) 0 0)) (now (out .entry)) ⌝ }
 {
     let q = codec::prefix::varint_len(count as u32);
     codec::prefix::write_varint(count as u32, out);
@@ -174,7 +153,7 @@ fn wide(x: u8) -> u64
 }
 
 // The run whose eight bytes are those from `at` on.
-fn word_at(bytes: &[u8], at: usize) -> u64
+fn run_word(bytes: &[u8], at: usize) -> u64
     requires { ⌜ at + 8 ≤ length (now bytes) ⌝ }
     ensures { λ r. ⌜ r ≡ leValue (take 8 (drop at (now (bytes .entry)))) ⌝ }
 {
@@ -196,14 +175,14 @@ fn fill_words(bytes: &[u8], at: usize, count: usize, out: &mut [u64])
 {
     let mut i: usize = 0;
     while i < count {
-        out[i] = word_at(bytes, at + 8 * i);
+        out[i] = run_word(bytes, at + 8 * i);
         i += 1;
     }
 }
 
 // A prefix that isn't whole passes its refusal straight up.
 fn passed_up(prefix: Prefix) -> Given
-    ensures { λ r. ⌜ r ≡ upOf prefix ⌝ }
+    ensures { λ r. ⌜ r ≡ upGiven prefix ⌝ }
 {
     match prefix {
         Prefix::Whole { value: _, len: _ } => Given::Refused(Refusal::Damaged),
@@ -231,7 +210,7 @@ fn read_words(bytes: &[u8], count: usize, len: usize, out: &mut [u64]) -> Given
 
 // The list at the front of `bytes` to the front of `out`.
 pub fn read_unitig_color_runs(bytes: &[u8], out: &mut [u64]) -> Given
-    ensures { λ r. ⌜ (ofGiven r, now (out .exit)) ≡ readInto (now (bytes .entry)) (now (out .entry)) ⌝ }
+    ensures { λ r. ⌜ (ofGiven r, now (out .exit)) ≡ readRunsInto (now (bytes .entry)) (now (out .entry)) ⌝ }
 {
     let prefix = codec::prefix::read_varint_len(bytes);
     let Prefix::Whole { value, len } = prefix else {
@@ -248,13 +227,13 @@ fn sharp_words(bytes: &[u8], at: usize, count: usize, n: u32) -> bool
     if count == 0 {
         return false;
     }
-    if words::offset(word_at(bytes, at)) != 0 {
+    if words::offset(run_word(bytes, at)) != 0 {
         return false;
     }
     let mut last: u32 = 0;
     let mut i: usize = 1;
     while i < count {
-        let o = words::offset(word_at(bytes, at + 8 * i));
+        let o = words::offset(run_word(bytes, at + 8 * i));
         if o <= last {
             return false;
         }
@@ -262,26 +241,6 @@ fn sharp_words(bytes: &[u8], at: usize, count: usize, n: u32) -> bool
         i += 1;
     }
     last < n
-}
-
-// Whether the bytes begin with a list that is sharp for n vertices.
-pub fn sharp_bytes(bytes: &[u8], n: u32) -> bool
-    ensures { λ r. ⌜ r ≡ sharpBytes n (now (bytes .entry)) ⌝ }
-{
-    let Prefix::Whole { value, len } = codec::prefix::read_varint_len(bytes) else {
-        return false;
-    };
-    sharp_after(bytes, value as usize, len, n)
-}
-
-fn sharp_after(bytes: &[u8], count: usize, len: usize, n: u32) -> bool
-    requires { ⌜ (len ≤ length (now bytes)) × (count ≤ 4294967295) ⌝ }
-    ensures { λ r. ⌜ r ≡ sharpIn n (afterCount (whole count (drop len (now (bytes .entry))))) ⌝ }
-{
-    if bytes.len() - len < 8 * count {
-        return false;
-    }
-    sharp_words(bytes, len, count, n)
 }
 
 // The coordinate of a vertex by the `count` runs of the bytes from `at` on.
@@ -292,7 +251,7 @@ fn find_color(bytes: &[u8], at: usize, count: usize, vertex: u32) -> u64
     let mut c: u64 = 0;
     let mut i: usize = 0;
     while i < count {
-        let w = word_at(bytes, at + 8 * i);
+        let w = run_word(bytes, at + 8 * i);
         if vertex < words::offset(w) {
             return c;
         }
@@ -302,19 +261,23 @@ fn find_color(bytes: &[u8], at: usize, count: usize, vertex: u32) -> u64
     c
 }
 
-fn color_after(bytes: &[u8], count: usize, len: usize, vertex: u32) -> Colored
+// The coordinate of a vertex of n by `count` runs behind a prefix of `len` bytes.
+fn sharp_color_after(bytes: &[u8], count: usize, len: usize, n: u32, vertex: u32) -> Colored
     requires { ⌜ (len ≤ length (now bytes)) × (count ≤ 4294967295) ⌝ }
-    ensures { λ r. ⌜ r ≡ colourIn vertex (afterCount (whole count (drop len (now (bytes .entry))))) ⌝ }
+    ensures { λ r. ⌜ ofColored r ≡ sharpColourIn n vertex (afterCount (whole count (drop len (now (bytes .entry))))) ⌝ }
 {
     if bytes.len() - len < 8 * count {
         return Colored::Refused(Refusal::Cut);
+    }
+    if !sharp_words(bytes, len, count, n) {
+        return Colored::Refused(Refusal::Runs);
     }
     Colored::At(find_color(bytes, len, count, vertex))
 }
 
 // A prefix that isn't whole.
 fn uncolored(prefix: Prefix) -> Colored
-    ensures { λ r. ⌜ r ≡ unreadOf prefix ⌝ }
+    ensures { λ r. ⌜ r ≡ upColored prefix ⌝ }
 {
     match prefix {
         Prefix::Whole { value: _, len: _ } => Colored::Refused(Refusal::Damaged),
@@ -322,13 +285,23 @@ fn uncolored(prefix: Prefix) -> Colored
     }
 }
 
-// The coordinate of a vertex by the list at the front of `bytes`.
-pub fn color_at(bytes: &[u8], vertex: u32) -> Colored
-    ensures { λ r. ⌜ r ≡ colourIn vertex (readRuns (now (bytes .entry))) ⌝ }
+// The same by the whole prefix: 4 or 5 of the prefix, 4, 6.
+fn sharp_color_in(bytes: &[u8], n: u32, vertex: u32) -> Colored
+    ensures { λ r. ⌜ ofColored r ≡ sharpColourIn n vertex (readRuns (now (bytes .entry))) ⌝ }
 {
     let prefix = codec::prefix::read_varint_len(bytes);
     let Prefix::Whole { value, len } = prefix else {
         return uncolored(prefix);
     };
-    color_after(bytes, value as usize, len, vertex)
+    sharp_color_after(bytes, value as usize, len, n, vertex)
+}
+
+// The coordinate of a vertex by the list at the front of `bytes`, which has to be sharp for n vertices: 14, then 4, 5, 6.
+pub fn sharp_color_at(bytes: &[u8], n: u32, vertex: u32) -> Colored
+    ensures { λ r. ⌜ ofColored r ≡ sharpColour n vertex (now (bytes .entry)) ⌝ }
+{
+    if n <= vertex {
+        return Colored::Refused(Refusal::Place);
+    }
+    sharp_color_in(bytes, n, vertex)
 }

@@ -5,7 +5,8 @@ ghost use Prim.Native.Nat.{_+_, _-_, _*_, _<_, _≤_};
 ghost use lib.ListN.{length};
 ghost use lib.Dec.{eqb};
 ghost use Rattle.runs.specs.Colours.{endAt, lastCoord};
-ghost use Rattle.runs.specs.Orders.{steady, sharp, fall, falls};
+ghost use Rattle.runs.specs.Orders.{steady, sharp};
+ghost use Rattle.runs.specs.Inside.Falls.{fall, falls};
 
 // 1 where the list falls at place p, that is, run p + 1 begins less than `step` vertices behind run p; otherwise 0. A number,
 // so that several are counted at a time.

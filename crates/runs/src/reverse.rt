@@ -11,9 +11,10 @@ ghost use lib.ListN.{length, drop, getD};
 ghost use Rattle.base.specs.Answers.{ofWritten};
 ghost use Rattle.base.specs.Parts.{over};
 ghost use Rattle.runs.specs.Colours.{endAt, firstCoord};
-ghost use Rattle.runs.specs.Orders.{Taken};
+ghost use Rattle.runs.specs.Inside.Lists.{Taken};
 ghost use Rattle.runs.specs.Reverse.{reverseRuns, oriented, orientInto, reverseInto, reverseInPlace};
-ghost use Rattle.runs.specs.Append.{shifted, Movable};
+ghost use Rattle.runs.specs.Append.{shifted};
+ghost use Rattle.runs.specs.Inside.Pieces.{Movable};
 
 // Run i of the list, or of the reversed list.
 pub(crate) fn run_at(runs: &[u64], n: u32, reversed: bool, i: usize) -> u64
@@ -73,7 +74,7 @@ fn fill_backward(runs: &[u64], n: u32, shift: u32, out: &mut [u64])
     let top = (n + shift) as u64;
     let mut i: usize = 0;
     while i + 1 < m {
-        out[i] = words::turned(runs[m - 2 - i], runs[m - 1 - i], top);
+        out[i] = words::backed(runs[m - 2 - i], runs[m - 1 - i], top);
         i += 1;
     }
 }

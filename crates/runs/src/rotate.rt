@@ -9,10 +9,10 @@ ghost use Prim.Native.Nat.{_+_, _-_, _%_, _<_, _≤_, min};
 ghost use lib.ListN.{length};
 ghost use Rattle.base.specs.Answers.{ofWritten};
 ghost use Rattle.base.specs.Parts.{over};
-ghost use Rattle.runs.specs.Orders.{Taken};
+ghost use Rattle.runs.specs.Inside.Lists.{Taken};
 ghost use Rattle.runs.specs.Reverse.{oriented};
 ghost use Rattle.runs.specs.Rotate.{rotateInto};
-ghost use Rattle.runs.specs.Cursor.{Parted, Next, begins, ahead};
+ghost use Rattle.runs.specs.Inside.Cursor.{Parted, NextRun, begins, runsFromStep};
 
 // Two rounds over the runs make a turned cycle: the first gives the vertices from the pivot on, the second those before it. Step j is run j
 // of the first round, or run j - m of the second, and gives vertices of one colour.
@@ -81,7 +81,7 @@ pub(crate) fn next_step(
     colour: u64,
 ) -> usize
     requires { ⌜ Taken n (now runs) × (p ≤ n) × (from ≤ length (now runs) + length (now runs)) ⌝ }
-    ensures { λ r. ⌜ Next n p (oriented reversed n (now (runs .entry))) from colour r ⌝ }
+    ensures { λ r. ⌜ NextRun n p (oriented reversed n (now (runs .entry))) from colour r ⌝ }
 {
     let m = runs.len();
     let mut j = from;
@@ -100,7 +100,7 @@ pub(crate) fn next_step(
 // How many runs the turned cycle has.
 pub(crate) fn count_turned(runs: &[u64], n: u32, p: u32, reversed: bool) -> usize
     requires { ⌜ Taken n (now runs) × (p ≤ n) ⌝ }
-    ensures { λ r. ⌜ r ≡ length (ahead n p (oriented reversed n (now (runs .entry))) 0 0) ⌝ }
+    ensures { λ r. ⌜ r ≡ length (runsFromStep n p (oriented reversed n (now (runs .entry))) 0 0) ⌝ }
 {
     let m = runs.len();
     let mut j: usize = 0;
@@ -121,8 +121,8 @@ pub(crate) fn count_turned(runs: &[u64], n: u32, p: u32, reversed: bool) -> usiz
 // The turned cycle's runs to the front of `out`.
 fn fill_turned(runs: &[u64], n: u32, p: u32, reversed: bool, count: usize, out: &mut [u64])
     requires { ⌜ Taken n (now runs) × (p ≤ n) × (count ≤ length (now out)) ⌝ }
-    requires { ⌜ count ≡ length (ahead n p (oriented reversed n (now runs)) 0 0) ⌝ }
-    ensures { λ _. ⌜ now (out .exit) ≡ over (ahead n p (oriented reversed n (now (runs .entry))) 0 0) (now (out .entry)) ⌝ }
+    requires { ⌜ count ≡ length (runsFromStep n p (oriented reversed n (now runs)) 0 0) ⌝ }
+    ensures { λ _. ⌜ now (out .exit) ≡ over (runsFromStep n p (oriented reversed n (now (runs .entry))) 0 0) (now (out .entry)) ⌝ }
 {
     let mut j: usize = 0;
     let mut colour: u64 = 0;

@@ -4,9 +4,9 @@ ghost use mathlib.Core.Path.{_≡_};
 ghost use Prim.Native.Nat.{_+_, _<_};
 ghost use lib.ListN.{length};
 ghost use Rattle.runs.specs.Words.{offset};
-ghost use Rattle.runs.specs.Orders.{Taken};
+ghost use Rattle.runs.specs.Inside.Lists.{Taken};
 ghost use Rattle.runs.specs.Reverse.{reverseRuns};
-ghost use Rattle.runs.specs.Swap.{Swapped, Backed, Within, putFour};
+ghost use Rattle.runs.specs.Inside.Swap.{Swapped, Backed, FourFit, putFour};
 
 // Four runs that stand side by side: they are read and written together, which takes less time than one by one.
 pub(crate) struct Four {
@@ -24,7 +24,7 @@ pub(crate) struct Ends {
 
 // The runs from place p on, each begun where it ended from the other side; the last ended where `next` begins.
 fn four_back(runs: &[u64], p: usize, next: u64, top: u64) -> Four
-    requires { ⌜ Within top (now runs) p next ⌝ }
+    requires { ⌜ FourFit top (now runs) p next ⌝ }
     ensures { λ r. ⌜ Backed top (now (runs .entry)) p next r ⌝ }
 {
     let a = runs[p];
@@ -32,10 +32,10 @@ fn four_back(runs: &[u64], p: usize, next: u64, top: u64) -> Four
     let c = runs[p + 2];
     let d = runs[p + 3];
     Four {
-        one: words::turned(a, b, top),
-        two: words::turned(b, c, top),
-        three: words::turned(c, d, top),
-        four: words::turned(d, next, top),
+        one: words::backed(a, b, top),
+        two: words::backed(b, c, top),
+        three: words::backed(c, d, top),
+        four: words::backed(d, next, top),
     }
 }
 
@@ -89,12 +89,12 @@ pub(crate) fn swap_ends(runs: &mut [u64], n: u32)
         let a = runs[i];
         let b = runs[k];
         let next = runs[i + 1];
-        runs[i] = words::turned(b, behind, top);
-        runs[k] = words::turned(a, next, top);
+        runs[i] = words::backed(b, behind, top);
+        runs[k] = words::backed(a, next, top);
         behind = b;
         i += 1;
     }
     if i + i < m {
-        runs[i] = words::turned(runs[i], behind, top);
+        runs[i] = words::backed(runs[i], behind, top);
     }
 }

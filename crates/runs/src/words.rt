@@ -55,7 +55,7 @@ pub(crate) fn flip(w: u64, n: u32, end: u32) -> u64
 }
 
 // A run that ended where `next` begins, begun there from the other side of `top` vertices.
-pub(crate) fn turned(w: u64, next: u64, top: u64) -> u64
+pub(crate) fn backed(w: u64, next: u64, top: u64) -> u64
     requires { ⌜ (offset next ≤ top) × (top < 16777216) ⌝ }
     ensures { λ r. ⌜ r ≡ pack (top - offset next) (coordinate w) ⌝ }
 {

@@ -15,7 +15,7 @@ use Rattle.shell.specs.declared.lists.Item.the-variants as item
 use Rattle.shell.specs.declared.lists.Listed.{Listed}
 use Rattle.shell.specs.declared.lists.Listed.the-variants as listed
 use Rattle.shell.specs.Fields.{fieldAt}
-use Rattle.shell.specs.Numbers.{numberOf}
+use Rattle.shell.specs.Numbers.{decimalOf}
 use Rattle.shell.specs.Pairs.{pairOf}
 
 abbrev pub itemOf : Number → ℕ → Fault → Item
@@ -30,22 +30,22 @@ wordOf read bad line (field.At start end) = itemOf (read (take (end - start) (dr
 
 -- the number of 32 bits that stands next
 unfoldable pub idAt : List ℕ → ℕ → Item
-idAt line at = wordOf (numberOf 4294967295) Digits line (fieldAt line at)
+idAt line at = wordOf (decimalOf 4294967295) Digits line (fieldAt line at)
 
 -- the run that stands next
 unfoldable pub runAt : List ℕ → ℕ → Item
 runAt line at = wordOf pairOf Pair line (fieldAt line at)
 
 -- one word: the end, a fault, or a value that `cut` makes fit an element of the output
-abbrev pub turn : (ℕ → ℕ) → Item → ℕ → List ℕ → (ℕ → ℕ → List ℕ → Listed × List ℕ) → Listed × List ℕ
-turn cut item.Nothing k out go = (listed.Done k, out)
-turn cut (item.Wrong f) k out go = (listed.Wrong f, out)
-turn cut (item.Value v next) k out go = (listed.Wrong Many, out) when leb (length out) k else go next (k + 1) (set out k (cut v))
+abbrev pub itemInto : (ℕ → ℕ) → Item → ℕ → List ℕ → (ℕ → ℕ → List ℕ → Listed × List ℕ) → Listed × List ℕ
+itemInto cut item.Nothing k out go = (listed.Done k, out)
+itemInto cut (item.Wrong f) k out go = (listed.Wrong f, out)
+itemInto cut (item.Value v next) k out go = (listed.Wrong Many, out) when leb (length out) k else go next (k + 1) (set out k (cut v))
 
 -- at most `left` words, from place k of the output on
 unfoldable pub listFrom : (ℕ → ℕ) → (List ℕ → ℕ → Item) → ℕ → List ℕ → ℕ → ℕ → List ℕ → Listed × List ℕ
 listFrom cut read zero line at k out = (listed.Done k, out)
-listFrom cut read (suc left) line at k out = turn cut (read line at) k out (listFrom cut read left line)
+listFrom cut read (suc left) line at k out = itemInto cut (read line at) k out (listFrom cut read left line)
 
 -- a line has fewer words than bytes
 abbrev pub idsFrom : ℕ → List ℕ → ℕ → ℕ → List ℕ → Listed × List ℕ

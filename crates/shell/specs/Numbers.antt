@@ -1,6 +1,5 @@
 -- Decimal numbers: '0' is 48, '9' is 57.
 use Prim.Native.Nat.{ℕ, _+_, _-_, _*_}
-use mathlib.Core.Bool.{Bool, _||_}
 use mathlib.Core.List.{List, [], _∷_}
 use lib.Dec.{ltb}
 use Rattle.base.specs.Tests.{_when_else_}
@@ -17,6 +16,6 @@ numberFrom most v (b ∷ bs) =
     numberFrom most (v * 10 + (b - 48)) bs
 
 -- the number that a text says, if it is at most `most`
-unfoldable pub numberOf : ℕ → List ℕ → Number
-numberOf most [] = Bad
-numberOf most (b ∷ bs) = numberFrom most 0 (b ∷ bs)
+unfoldable pub decimalOf : ℕ → List ℕ → Number
+decimalOf most [] = Bad
+decimalOf most (b ∷ bs) = numberFrom most 0 (b ∷ bs)

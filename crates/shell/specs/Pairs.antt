@@ -8,7 +8,7 @@ use Rattle.shell.specs.declared.numbers.Number.{Number}
 use Rattle.shell.specs.declared.numbers.Number.the-variants.{Value, Bad, Large}
 use Rattle.shell.specs.declared.classes.Class.the-variants.{Half}
 use Rattle.shell.specs.Classes.{span}
-use Rattle.shell.specs.Numbers.{numberOf}
+use Rattle.shell.specs.Numbers.{decimalOf}
 
 -- the word of an offset and a coordinate: the low 24 bits, and the 40 bits above them
 unfoldable pub pack : ℕ → ℕ → Number
@@ -25,7 +25,7 @@ packed Large c = Large
 unfoldable pub halves : ℕ → List ℕ → Number
 halves k text =
     Bad when leb (length text) k else
-    packed (numberOf 16777215 (take (k - 0) (drop 0 text))) (numberOf 1099511627775 (take (length text - (k + 1)) (drop (k + 1) text)))
+    packed (decimalOf 16777215 (take (k - 0) (drop 0 text))) (decimalOf 1099511627775 (take (length text - (k + 1)) (drop (k + 1) text)))
 
 unfoldable pub pairOf : List ℕ → Number
 pairOf text = halves (0 + span Half (drop 0 text)) text

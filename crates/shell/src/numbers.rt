@@ -1,7 +1,7 @@
 // Decimal numbers.
 ghost use mathlib.Core.Path.{_≡_};
 ghost use Prim.Native.Nat.{_≤_};
-ghost use Rattle.shell.specs.Numbers.{numberOf};
+ghost use Rattle.shell.specs.Numbers.{decimalOf};
 
 pub enum Number {
     Value(u64),
@@ -20,7 +20,7 @@ fn wide(b: u8) -> u64
 // The number that a text says, if it is at most `most`.
 pub(crate) fn number_to(text: &[u8], most: u64) -> Number
     requires { ⌜ most ≤ 1000000000000000000 ⌝ }
-    ensures { λ r. ⌜ r ≡ numberOf most (now (text .entry)) ⌝ }
+    ensures { λ r. ⌜ r ≡ decimalOf most (now (text .entry)) ⌝ }
 {
     if text.len() == 0 {
         return Number::Bad;
@@ -47,7 +47,7 @@ pub(crate) fn number_to(text: &[u8], most: u64) -> Number
 
 // A number of 32 bits.
 pub fn number_in(text: &[u8]) -> Number
-    ensures { λ r. ⌜ r ≡ numberOf 4294967295 (now (text .entry)) ⌝ }
+    ensures { λ r. ⌜ r ≡ decimalOf 4294967295 (now (text .entry)) ⌝ }
 {
     number_to(text, 4294967295)
 }

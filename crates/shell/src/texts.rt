@@ -1,8 +1,7 @@
 // Text behind text in a buffer.
 ghost use mathlib.Core.Path.{_≡_};
-ghost use mathlib.Core.List.{List, [], _∷_};
+ghost use mathlib.Core.List.{[], _∷_};
 ghost use Prim.Native.Nat.{_<_, _/_, _%_};
-ghost use lib.ListN.{length};
 ghost use Rattle.io.specs.Digits.{glyph};
 ghost use Rattle.shell.specs.Texts.{putAt, Printed};
 

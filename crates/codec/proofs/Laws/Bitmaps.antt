@@ -1,5 +1,5 @@
 -- The bitmap of a set in chunks.
-use Prim.Native.Nat.{ℕ, zero, suc, _+_, _-_, _*_, _%_, _^_, _≤_, _<_}
+use Prim.Native.Nat.{ℕ, zero, suc, _+_, _-_, _*_, _^_, _≤_, _<_}
 use mathlib.Core.Path.{_≡_, refl, sym, ap, ap₂, _∙_, subst}
 use mathlib.Core.Bool.{Bool, true, false}
 use mathlib.Core.List.{List, [], _∷_, _++_, append-assoc, append-nil}
@@ -13,9 +13,9 @@ use lib.Pow.{pow-mono}
 use borrow.Author.Tests.{eq-eqb, ne-eqb}
 use Rattle.codec.specs.Bits.{lowBits, valueOf}
 use Rattle.codec.specs.Sets.{Within, mapBits}
-use Rattle.codec.specs.Gaps.{Ahead}
-use Rattle.codec.specs.Bitmaps.{MapOf}
-use Rattle.codec.specs.declared.bitmap.Chunk.{Chunk}
+use Rattle.codec.specs.Inside.Gaps.{Ahead}
+use Rattle.codec.specs.Inside.Bitmaps.{MapOf}
+use Rattle.codec.specs.declared.bitmap.MapChunk.{MapChunk}
 use Rattle.codec.proofs.Laws.Low.{length-low, low-join, low-value, value-low}
 use Rattle.codec.proofs.Laws.Bits.{joined-lt, low-more}
 use Rattle.codec.proofs.Laws.Sets.{length-mapBits}
@@ -155,7 +155,7 @@ module _ (N : ℕ) (ids : List ℕ) where
     pub mapping-count : length done ≡ base
     mapping-count = omega (arith, so .ahead .below, sym (length-mapBits N 0 ids) ∙ ap length (so .all) ∙ length-append done (mapBits base (N - base) (drop i ids)), length-mapBits (N - base) base (drop i ids))
 
-    module _ (width : ℕ) (r : Chunk) (chunk : MapOf N ids i base width r) where
+    module _ (width : ℕ) (r : MapChunk) (chunk : MapOf N ids i base width r) where
       pub mapping-next : Mapping N ids (r .next) (base + width) (done ++ lowBits width (r .word))
       mapping-next =
           let n : N - base ≡ width + (N - (base + width)) = omega (arith, chunk .ahead .below) in

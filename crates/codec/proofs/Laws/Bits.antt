@@ -3,15 +3,15 @@ use Prim.Native.Nat.{ℕ, zero, suc, _+_, _-_, _*_, _/_, _%_, _^_, _≤_, _<_}
 use mathlib.Core.Path.{_≡_, refl, sym, ap, ap₂, _∙_, subst}
 use mathlib.Core.Bool.{Bool, true, false}
 use mathlib.Core.List.{List, [], _∷_, _++_, append-assoc, append-nil}
-use native.Mathlib.Nat.{add-comm, add-mod-right, mod-eq-of-lt, div-eq-of-lt, zero-div, zero-add, le-trans, lt-of-not-le, not-le-of-lt, lt-of-lt-of-le}
+use native.Mathlib.Nat.{add-comm, add-mod-right, mod-eq-of-lt, div-eq-of-lt, lt-of-not-le, not-le-of-lt, lt-of-lt-of-le}
 use native.Mathlib.Numerals.{add-one}
 use native.Mathlib.Decide.{decLe}
 use native.Mathlib.Omega.{arith}
-use lib.ListN.{length, take, drop, set, getD, replicate, length-append, length-set, length-replicate, length-drop, take-append-drop, drop-of-length-le, replicate-append-replicate}
+use lib.ListN.{length, take, drop, set, replicate, length-append, length-set, length-replicate, length-drop, take-append-drop, drop-of-length-le, replicate-append-replicate}
 use lib.Seq.{take-suc-set, take-at, drop-at, take-all, length-take-le}
 use lib.Arith.{digits-lt}
-use lib.Pow.{pow-pos, pow-add, pow-mono, shl-exact, shr-lt}
-use Rattle.codec.specs.Bits.{isOne, lowBits, valueOf, bitsOf, packBytes, packBits, bytesFor, AreBytes}
+use lib.Pow.{pow-add, pow-mono, shl-exact}
+use Rattle.codec.specs.Bits.{lowBits, valueOf, bitsOf, packBytes, packBits, bytesFor, AreBytes}
 use Rattle.codec.specs.Codes.{highBit, gamma, delta}
 use Rattle.codec.proofs.Laws.Codes.{high-top}
 use Rattle.codec.proofs.Laws.Low.{length-low, low-add, low-mod, low-join, value-low, low-value, value-lt, length-bits}
@@ -57,8 +57,8 @@ flush4 out at acc p h =
 pub joined-lt : (p c a v : ℕ) → a < 2 ^ p → v < 2 ^ c → a + v * 2 ^ p < 2 ^ (p + c)
 joined-lt p c a v h k = rw (add-comm a (v * 2 ^ p), add-comm p c, pow-add 2 c p) (digits-lt k h)
 
-pub shifted : (p c v : ℕ) → v < 2 ^ c → c + p ≤ 64 → v * 2 ^ p % 2 ^ 64 ≡ v * 2 ^ p
-shifted p c v k h = shl-exact c p 64 k h
+pub shift-fits : (p c v : ℕ) → v < 2 ^ c → c + p ≤ 64 → v * 2 ^ p % 2 ^ 64 ≡ v * 2 ^ p
+shift-fits p c v k h = shl-exact c p 64 k h
 
 pub put-bits : (xs : List ℕ) (p c a v : ℕ) → a < 2 ^ p → bitsOf xs ++ lowBits (p + c) (a + v * 2 ^ p) ≡ (bitsOf xs ++ lowBits p a) ++ lowBits c v
 put-bits xs p c a v h = rw (low-join p c a v h, append-assoc)

@@ -1,6 +1,6 @@
 -- Laws of the cursor over the ids that a set codes as distances.
 use Prim.Native.Nat.{ℕ, zero, suc, _+_, _-_, _≤_, _<_}
-use mathlib.Core.Path.{_≡_, refl, sym, ap, ap₂, _∙_, subst}
+use mathlib.Core.Path.{_≡_, refl, sym, ap, _∙_, subst}
 use mathlib.Core.Bool.{Bool, true, false, not}
 use mathlib.Core.List.{List, [], _∷_, _++_, map, append-assoc, append-nil}
 use native.Mathlib.Numerals.{add-one}
@@ -13,9 +13,9 @@ use borrow.Author.Tests.{eq-eqb, ne-eqb}
 use Rattle.codec.specs.Bits.{digit}
 use Rattle.codec.specs.Codes.{delta, got, readDelta}
 use Rattle.codec.specs.Sets.{Within, past, mapBits, idsOf, absent, gapBits}
-use Rattle.codec.specs.Gaps.{codedIds, absentFrom, codedFrom, Ahead, upIn, Skipped, Gave}
+use Rattle.codec.specs.Inside.Gaps.{codedIds, absentFrom, codedFrom, Ahead, upIn, Skipped, Gave}
 use Rattle.codec.specs.declared.gaps.Cursor.{Cursor}
-use Rattle.codec.specs.declared.gaps.Next.the-variants.{Id, End}
+use Rattle.codec.specs.declared.gaps.NextId.the-variants.{Id, End}
 use Rattle.codec.proofs.Laws.Codes.{delta-read}
 
 -- ---- ids that ascend

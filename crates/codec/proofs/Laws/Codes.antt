@@ -1,10 +1,9 @@
 -- Laws of the gamma and delta codes, for every natural number.
-use Prim.Native.Nat.{ℕ, zero, suc, _+_, _-_, _*_, _/_, _%_, _^_, _≤_, _<_, zero-le}
+use Prim.Native.Nat.{ℕ, zero, suc, _+_, _-_, _*_, _/_, _%_, _^_, _≤_, _<_}
 use mathlib.Core.Path.{_≡_, refl, sym, ap, ap₂, _∙_, subst}
 use mathlib.Core.Bool.{Bool, true, false, cond}
-use mathlib.Core.List.{List, [], _∷_, _++_, append-assoc, append-nil}
-use mathlib.Core.Logic.{_⊎_, inl, inr}
-use native.Mathlib.Nat.{pow-suc, zero-lt-suc, zero-add, add-zero, add-suc, suc-add, add-comm, add-assoc, le-refl, mod-eq-of-lt, mod-eq-sub-mod, div-lt-iff-lt-mul, le-antisymm, lt-of-not-le, not-le-of-lt, le-of-suc-le-suc, lt-of-le-of-lt, le-trans, eq-zero-or-pos}
+use mathlib.Core.List.{List, [], _∷_, _++_, append-assoc}
+use native.Mathlib.Nat.{pow-suc, zero-lt-suc, zero-add, add-zero, le-refl, mod-eq-of-lt, mod-eq-sub-mod, le-antisymm, lt-of-not-le, not-le-of-lt, le-of-suc-le-suc, le-trans}
 use native.Mathlib.Numerals.{add-one}
 use native.Mathlib.Omega.{arith}
 use lib.ListN.{length, take, drop, getD, replicate, length-append, take-append-drop, drop-of-length-le}
@@ -16,7 +15,7 @@ use lib.Arith.{half-le}
 use borrow.Author.Tests.{le-leb, lt-leb, leb-true}
 use Rattle.codec.specs.Bits.{lowBits, valueOf}
 use Rattle.codec.specs.Codes.{above, highIn, highBit, gamma, delta, Read, got, end, andThen, readZeros, readLow, readGamma, readDelta}
-use Rattle.codec.proofs.Laws.Low.{length-low, value-low, low-value, value-lt, low-mod, low-join}
+use Rattle.codec.proofs.Laws.Low.{length-low, value-low, low-value, value-lt, low-mod}
 
 -- ---- the highest set bit
 

@@ -1,21 +1,21 @@
 -- Laws of comparing a payload or a record with a set, bit by bit.
-use Prim.Native.Nat.{ℕ, _+_, _-_, _^_, _≤_, _<_}
+use Prim.Native.Nat.{ℕ, _+_, _-_, _≤_, _<_}
 use mathlib.Core.Path.{_≡_, refl, sym, ap, ap₂, _∙_, subst}
 use mathlib.Core.Bool.{Bool, true, false, cond, _&&_}
 use mathlib.Core.List.{List, [], _∷_, _++_, append-assoc}
 use native.Mathlib.Omega.{arith}
 use lib.ListN.{length, take, drop}
-use lib.Dec.{leb, ltb, eqb}
+use lib.Dec.{ltb, eqb}
 use borrow.Author.Tests.{le-leb, lt-leb, lt-ltb, eq-eqb, eqb-true}
 use Rattle.base.proofs.Bools.{and-true, true-false, false-true}
 use Rattle.codec.specs.Bits.{bitsOf, AreBytes}
 use Rattle.codec.specs.Codes.{delta, got, readDelta}
-use Rattle.codec.specs.Sets.{Within, within, Regime, regime, bodyBits, setBits, encodeSet, ReadIds, given, readSet, padding, Decoded, set, noSet, padded, decodeSet}
-use Rattle.codec.specs.Payloads.{givesSet}
-use Rattle.codec.specs.Prefix.{ReadLeb, whole, cut, bad, readPrefix, prefixIn}
+use Rattle.codec.specs.Sets.{Within, within, regime, bodyBits, setBits, ReadIds, given, readSet, padding, Decoded, set, noSet, padded, decodeSet}
+use Rattle.codec.specs.Inside.Payloads.{givesSet}
+use Rattle.codec.specs.Prefix.{ReadLeb, whole, cut, bad, readPrefix, ofPrefix, prefixIn}
 use Rattle.codec.specs.Records.{same, ReadRecord, found, short, damaged, payloadSet, afterPrefix, readRecord, givesIds}
 use Rattle.base.specs.declared.Refusal.{Refusal}
-use Rattle.codec.specs.declared.prefix.Prefix.the-variants.{Whole, Refused}
+use Rattle.codec.specs.declared.prefix.Prefix.the-variants.{Refused}
 use Rattle.codec.proofs.Laws.Codes.{delta-read, delta-only}
 use Rattle.codec.proofs.Laws.Sets.{set-read, set-only, padded-set}
 use Rattle.codec.proofs.Laws.Records.{record-only}
@@ -94,11 +94,11 @@ gives-none N ids input h e = go (readRecord N input) refl
     go (found js rest) q = not-same js ids (λ s. true-false (sym (within-all 0 N ids (subst (Within 0 N) s (record-only N input js rest h q .0))) ∙ e))
 
 module _ (N : ℕ) (ids input : List ℕ) where
-  pub gives-refused : (x : Refusal) → Refused x ≡ prefixIn (length input) (readPrefix input) → givesIds (readRecord N input) ids ≡ false
+  pub gives-refused : (x : Refusal) → ofPrefix (Refused x) ≡ prefixIn (length input) (readPrefix input) → givesIds (readRecord N input) ids ≡ false
   unfolding readRecord
   gives-refused x e = go (readPrefix input) e
     where
-      go : (r : ReadLeb) → Refused x ≡ prefixIn (length input) r → givesIds (afterPrefix N r) ids ≡ false
+      go : (r : ReadLeb) → ofPrefix (Refused x) ≡ prefixIn (length input) r → givesIds (afterPrefix N r) ids ≡ false
       go (whole n rest) e = let z : _≡_ {A = ℕ} 0 1 = cc in absurd (omega arith)
       go cut e = refl
       go bad e = refl

@@ -13,8 +13,8 @@ use Rattle.base.proofs.Bools.{and-both, and-left-no, and-right-no}
 use Rattle.codec.specs.Bits.{valueOf, bitsOf}
 use Rattle.codec.specs.Codes.{Read, got, end, readDelta}
 use Rattle.codec.specs.Sets.{idsOf, absent, Regime, sparse, bitmap, dense, regime, given, none, andIds, readGaps, readMap, readBody, readSet, padding, set, noSet, padded, decodeSet}
-use Rattle.codec.specs.Gaps.{IdsAt}
-use Rattle.codec.specs.Payloads.{regimeOf, PayloadOf, KeptBy, setIds}
+use Rattle.codec.specs.Inside.Gaps.{IdsAt}
+use Rattle.codec.specs.Inside.Payloads.{regimeOf, PayloadOf, KeptBy, setIds}
 use Rattle.codec.specs.declared.gaps.Checked.{Checked}
 use Rattle.codec.specs.declared.gaps.Checked.the-variants.{Good, Bad}
 use Rattle.codec.specs.declared.sets.Kind.{Kind}

@@ -1,6 +1,6 @@
 -- Laws of writing a set: the bits of its body by kind, its payload, and its record.
-use Prim.Native.Nat.{ℕ, _+_, _-_, _*_, _/_, _^_, _≤_, _<_}
-use mathlib.Core.Path.{_≡_, refl, sym, ap, ap₂, _∙_, subst}
+use Prim.Native.Nat.{ℕ, _+_, _-_, _^_, _≤_, _<_}
+use mathlib.Core.Path.{_≡_, sym, ap, ap₂, _∙_}
 use mathlib.Core.Bool.{Bool, true, false}
 use mathlib.Core.List.{List, [], _∷_, _++_}
 use native.Mathlib.Omega.{arith}
@@ -15,15 +15,14 @@ use Rattle.codec.specs.Bits.{lowBits, bitsOf, packBits, bytesFor, AreByt
 use Rattle.codec.specs.Codes.{delta}
 use Rattle.codec.specs.Prefix.{prefixOf}
 use Rattle.codec.specs.Sets.{Within, absent, mapBits, gapBits, Regime, empty, sparse, bitmap, dense, regime, bodyBits, setBits, encodeSet}
-use Rattle.codec.specs.Gaps.{codedIds}
-use Rattle.codec.specs.Payloads.{regimeOf}
+use Rattle.codec.specs.Inside.Gaps.{codedIds}
+use Rattle.codec.specs.Inside.Payloads.{regimeOf}
 use Rattle.codec.specs.Records.{badColors, recordOf}
-use Rattle.codec.specs.Writers.{streamOf, Ready, Wrote}
+use Rattle.codec.specs.Inside.Writers.{streamOf, Ready, Wrote}
 use Rattle.codec.specs.declared.bits.BitWriter.{BitWriter}
 use Rattle.codec.specs.declared.sets.Kind.{Kind}
 use Rattle.codec.specs.declared.sets.Kind.the-variants.{Empty, Sparse, Bitmap, Dense}
-use Rattle.codec.proofs.Laws.Low.{length-low, length-bits}
-use Rattle.codec.proofs.Laws.Sizes.{set-size, length-pack, length-payload}
+use Rattle.codec.proofs.Laws.Sizes.{set-size, length-payload}
 use Rattle.codec.proofs.Laws.Sets.{absent-count}
 use Rattle.codec.proofs.Laws.Varints.{prefix-1}
 

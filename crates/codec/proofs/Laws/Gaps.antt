@@ -10,15 +10,15 @@ use borrow.Author.Tests.{lt-ltb, le-ltb, ltb-true, eqb-true, eqb-false}
 use Rattle.base.specs.Parts.{over}
 use Rattle.codec.specs.Codes.{Read, got, end, readDelta}
 use Rattle.codec.specs.Sets.{Within, mapBits, idsOf, absent, ReadIds, given, none, thenId, andIds, readGaps}
-use Rattle.codec.specs.Gaps.{after, absentFrom, numbers, idsIn, Accepted, Put, Kept}
+use Rattle.codec.specs.Inside.Gaps.{withIds, absentFrom, numbers, idsIn, Accepted, Put, Kept}
 use Rattle.codec.proofs.Laws.Filled.{put-all, put-front}
 use Rattle.codec.proofs.Laws.Sets.{gaps-only, and-ids, cond-ids, then-ids}
 
-pub after-nil : (r : ReadIds) → r ≡ after [] r
+pub after-nil : (r : ReadIds) → r ≡ withIds [] r
 after-nil (given xs rest) = refl
 after-nil none = refl
 
-pub after-then : (xs : List ℕ) (x : ℕ) (r : ReadIds) → after xs (thenId x r) ≡ after (xs ++ (x ∷ [])) r
+pub after-then : (xs : List ℕ) (x : ℕ) (r : ReadIds) → withIds xs (thenId x r) ≡ withIds (xs ++ (x ∷ [])) r
 after-then xs x (given ys rest) = ap (λ (l : List ℕ). given l rest) (sym (append-assoc xs (x ∷ []) ys))
 after-then xs x none = refl
 
@@ -46,20 +46,20 @@ pub none-ids : {A : Type 0} {r : ReadIds} {xs : List ℕ} {rest : List Bool} →
 none-ids {r = r} {xs = xs} {rest = rest} p q = let x : _≡_ {A = ℕ} 0 1 = cc in absurd (omega arith)
 
 -- the answer to all n given, with i of them read
-module _ (all : ReadIds) (xs : List ℕ) (n i from top : ℕ) (bits : List Bool) (more : i < n) (so : all ≡ after xs (readGaps (n - i) from top bits)) where
+module _ (all : ReadIds) (xs : List ℕ) (n i from top : ℕ) (bits : List Bool) (more : i < n) (so : all ≡ withIds xs (readGaps (n - i) from top bits)) where
   left : n - i ≡ suc (n - (i + 1))
   left = omega arith
 
-  pub ahead : (g : ℕ) (rest : List Bool) → readDelta bits ≡ got g rest → from + g < top → all ≡ after (xs ++ ((from + g) ∷ [])) (readGaps (n - (i + 1)) (from + g + 1) top rest)
-  ahead g rest e h = so ∙ ap (λ (k : ℕ). after xs (readGaps k from top bits)) left ∙ ap (after xs) (gaps-step (n - (i + 1)) from top g bits rest e h) ∙ after-then xs (from + g) (readGaps (n - (i + 1)) (from + g + 1) top rest)
+  pub ahead : (g : ℕ) (rest : List Bool) → readDelta bits ≡ got g rest → from + g < top → all ≡ withIds (xs ++ ((from + g) ∷ [])) (readGaps (n - (i + 1)) (from + g + 1) top rest)
+  ahead g rest e h = so ∙ ap (λ (k : ℕ). withIds xs (readGaps k from top bits)) left ∙ ap (withIds xs) (gaps-step (n - (i + 1)) from top g bits rest e h) ∙ after-then xs (from + g) (readGaps (n - (i + 1)) (from + g + 1) top rest)
 
   pub stuck : readGaps (suc (n - (i + 1))) from top bits ≡ none → all ≡ none
-  stuck e = so ∙ ap (λ (k : ℕ). after xs (readGaps k from top bits)) left ∙ ap (after xs) e
+  stuck e = so ∙ ap (λ (k : ℕ). withIds xs (readGaps k from top bits)) left ∙ ap (withIds xs) e
 
-pub arrived : (all : ReadIds) (xs : List ℕ) (n i from top : ℕ) (bits : List Bool) → n ≤ i → all ≡ after xs (readGaps (n - i) from top bits) → all ≡ given xs bits
+pub arrived : (all : ReadIds) (xs : List ℕ) (n i from top : ℕ) (bits : List Bool) → n ≤ i → all ≡ withIds xs (readGaps (n - i) from top bits) → all ≡ given xs bits
 arrived all xs n i from top bits h so =
     let z : n - i ≡ 0 = omega arith in
-    so ∙ ap (λ (k : ℕ). after xs (readGaps k from top bits)) z ∙ ap (after xs) (gaps-done from top bits) ∙ ap (λ (l : List ℕ). given l bits) (append-nil xs)
+    so ∙ ap (λ (k : ℕ). withIds xs (readGaps k from top bits)) z ∙ ap (withIds xs) (gaps-done from top bits) ∙ ap (λ (l : List ℕ). given l bits) (append-nil xs)
 
 -- ---- ids that are put in what is lent for them
 

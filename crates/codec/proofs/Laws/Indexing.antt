@@ -1,7 +1,6 @@
 -- Laws of making an index: one record, and the records passed.
-use Prim.Native.Nat.{ℕ, zero, suc, _+_, _-_, _%_, _^_, _≤_, _<_}
-use mathlib.Core.Path.{_≡_, refl, sym, ap, ap₂, _∙_, subst}
-use mathlib.Core.Bool.{Bool}
+use Prim.Native.Nat.{ℕ, suc, _+_, _-_, _^_, _≤_, _<_}
+use mathlib.Core.Path.{_≡_, refl, sym, ap, _∙_, subst}
 use mathlib.Core.List.{List, [], _∷_, _++_, append-assoc}
 use native.Mathlib.Numerals.{add-one}
 use native.Mathlib.Omega.{arith}
@@ -16,11 +15,11 @@ use Rattle.base.specs.declared.Refusal.the-variants as refusal
 use Rattle.base.specs.declared.Made.{Made}
 use Rattle.base.specs.declared.Made.the-variants as made
 use Rattle.base.proofs.Tests.{when-yes, when-no}
-use Rattle.codec.specs.Prefix.{ReadLeb, whole, cut, bad, readLeb, readPrefix, prefixIn}
+use Rattle.codec.specs.Prefix.{ReadLeb, whole, cut, bad, readLeb, readPrefix, ofPrefix, prefixIn}
 use Rattle.codec.specs.declared.prefix.Prefix.{Prefix}
 use Rattle.codec.specs.declared.prefix.Prefix.the-variants.{Whole, Refused}
 use Rattle.codec.specs.Index.{Indexed, entries, stopped, andEntry, behind, indexFrom, indexOf, indexBy, makeIndex}
-use Rattle.codec.specs.Indexes.{SteppedAt, outcome, entriesIn}
+use Rattle.codec.specs.Inside.Indexes.{SteppedAt, outcome, entriesIn}
 use Rattle.codec.specs.declared.index.Step.the-variants as step
 use Rattle.codec.proofs.Laws.Prefix.{prefix-behind}
 
@@ -28,21 +27,21 @@ use Rattle.codec.proofs.Laws.Prefix.{prefix-behind}
 
 -- what the prefix at `at` answers
 abbrev pub Says : List ℕ → ℕ → Prefix → Type 0
-Says bytes at p = prefixIn (length (drop at bytes)) (readPrefix (drop at bytes)) ≡ p
+Says bytes at p = prefixIn (length (drop at bytes)) (readPrefix (drop at bytes)) ≡ ofPrefix p
 
 -- the part of the bytes from `at` on, as the code takes it
 pub part-says : (bytes : List ℕ) (at : ℕ) {p q : Prefix}
-    → p ≡ prefixIn (length (take (length bytes - at) (drop at bytes))) (readPrefix (take (length bytes - at) (drop at bytes))) → p ≡ q → Says bytes at q
+    → ofPrefix p ≡ prefixIn (length (take (length bytes - at) (drop at bytes))) (readPrefix (take (length bytes - at) (drop at bytes))) → p ≡ q → Says bytes at q
 part-says bytes at e f =
     let part : take (length bytes - at) (drop at bytes) ≡ drop at bytes = take-all (length bytes - at) (drop at bytes) (omega (arith, length-drop at bytes)) in
-    ap (λ (l : List ℕ). prefixIn (length l) (readPrefix l)) (sym part) ∙ sym e ∙ f
+    ap (λ (l : List ℕ). prefixIn (length l) (readPrefix l)) (sym part) ∙ sym e ∙ ap ofPrefix f
 
 -- no byte is a prefix cut short, and a byte below 128 is a whole one
 pub says-none : (bytes : List ℕ) (at : ℕ) → length bytes ≤ at → Says bytes at (Refused refusal.Cut)
 unfolding readPrefix readLeb
 says-none bytes at h = rw (drop-of-length-le bytes {i = at} h)
 
-one-byte : (b : ℕ) (rest : List ℕ) → b < 128 → prefixIn (length (b ∷ rest)) (readPrefix (b ∷ rest)) ≡ Whole b 1
+one-byte : (b : ℕ) (rest : List ℕ) → b < 128 → prefixIn (length (b ∷ rest)) (readPrefix (b ∷ rest)) ≡ ofPrefix (Whole b 1)
 unfolding readPrefix readLeb
 one-byte b rest h =
     let n : length (b ∷ rest) - length rest ≡ 1 = omega arith in
@@ -56,10 +55,10 @@ module _ (bytes : List ℕ) (at : ℕ) (inside : at ≤ length bytes) where
   unfolding indexFrom
   step-up x e count = go (readPrefix (drop at bytes)) e
     where
-      go : (r : ReadLeb) → prefixIn (length (drop at bytes)) r ≡ Refused x → behind (λ (next : ℕ) (rest : List ℕ). indexFrom count next rest) at (length (drop at bytes)) r ≡ stopped (numberOf x)
+      go : (r : ReadLeb) → prefixIn (length (drop at bytes)) r ≡ ofPrefix (Refused x) → behind (λ (next : ℕ) (rest : List ℕ). indexFrom count next rest) at (length (drop at bytes)) r ≡ stopped (numberOf x)
       go (whole n rest) e = let z : _≡_ {A = ℕ} 0 1 = cc in absurd (omega arith)
-      go cut e = let v : refusal.Cut ≡ x = cc in ap (λ (y : Refusal). stopped (numberOf y)) v
-      go bad e = let v : refusal.Damaged ≡ x = cc in ap (λ (y : Refusal). stopped (numberOf y)) v
+      go cut e = let v : 4 ≡ numberOf x = cc in ap stopped v
+      go bad e = let v : 5 ≡ numberOf x = cc in ap stopped v
 
   module _ (n len : ℕ) (e : Says bytes at (Whole n len)) where
     there : (readPrefix (drop at bytes) ≡ whole n (drop len (drop at bytes))) × (len ≤ length (drop at bytes)) × (n < 2 ^ 32)
@@ -97,15 +96,15 @@ outcome-entry at (entries es) = refl
 outcome-entry at (stopped n) = refl
 
 -- the entries `es`, and those of an index behind them
-abbrev pub after : List ℕ → Indexed → Indexed
-after es (entries fs) = entries (es ++ fs)
-after es (stopped n) = stopped n
+abbrev pub withEntries : List ℕ → Indexed → Indexed
+withEntries es (entries fs) = entries (es ++ fs)
+withEntries es (stopped n) = stopped n
 
-after-none : (r : Indexed) → r ≡ after [] r
+after-none : (r : Indexed) → r ≡ withEntries [] r
 after-none (entries fs) = refl
 after-none (stopped n) = refl
 
-after-entry : (es : List ℕ) (at : ℕ) (r : Indexed) → after es (andEntry at r) ≡ after (es ++ (at ∷ [])) r
+after-entry : (es : List ℕ) (at : ℕ) (r : Indexed) → withEntries es (andEntry at r) ≡ withEntries (es ++ (at ∷ [])) r
 after-entry es at (entries fs) = ap entries (sym (append-assoc es (at ∷ []) fs))
 after-entry es at (stopped n) = refl
 
@@ -142,7 +141,7 @@ module _ (bytes : List ℕ) (count : ℕ) where
     pub passed : i ≤ count
     pub size : length out ≡ length old
     pub kept : drop i out ≡ drop i old
-    pub index : indexOf count bytes ≡ after (take i out) (indexFrom (count - i) at (drop at bytes))
+    pub index : indexOf count bytes ≡ withEntries (take i out) (indexFrom (count - i) at (drop at bytes))
 
   pub filling-none : (old : List ℕ) → Filling old old 0 0
   unfolding indexOf
@@ -153,7 +152,7 @@ module _ (bytes : List ℕ) (count : ℕ) where
         passed = omega arith;
         size = refl;
         kept = refl;
-        index = after-none (indexFrom count 0 bytes) ∙ ap (λ (k : ℕ). after [] (indexFrom k 0 bytes)) z;
+        index = after-none (indexFrom count 0 bytes) ∙ ap (λ (k : ℕ). withEntries [] (indexFrom k 0 bytes)) z;
       }
 
   module _ (old out : List ℕ) (at i : ℕ) (room : count < length old) (f : Filling old out at i) where
@@ -170,13 +169,13 @@ module _ (bytes : List ℕ) (count : ℕ) where
             passed = omega arith;
             size = length-set out i at ∙ f .size;
             kept = drop-set-lt (i + 1) out i at (omega arith) ∙ sym (drop-drop 1 i out) ∙ ap (drop 1) (f .kept) ∙ drop-drop 1 i old;
-            index = f .index ∙ ap (λ (k : ℕ). after (take i out) (indexFrom k at (drop at bytes))) one-left ∙ ap (after (take i out)) (s .0 (count - (i + 1)))
-                ∙ after-entry (take i out) at rest ∙ ap (λ (es : List ℕ). after es rest) (sym front);
+            index = f .index ∙ ap (λ (k : ℕ). withEntries (take i out) (indexFrom k at (drop at bytes))) one-left ∙ ap (withEntries (take i out)) (s .0 (count - (i + 1)))
+                ∙ after-entry (take i out) at rest ∙ ap (λ (es : List ℕ). withEntries es rest) (sym front);
           }
 
       pub filling-stop : (x : Refusal) → outcome (indexOf count bytes) ≡ done [] → SteppedAt bytes at (step.Refused x) → ⊥
       filling-stop x good s =
-          let e : outcome (indexOf count bytes) ≡ refused (numberOf x) = ap outcome (f .index ∙ ap (λ (k : ℕ). after (take i out) (indexFrom k at (drop at bytes))) one-left ∙ ap (after (take i out)) (s (count - (i + 1)))) in
+          let e : outcome (indexOf count bytes) ≡ refused (numberOf x) = ap outcome (f .index ∙ ap (λ (k : ℕ). withEntries (take i out) (indexFrom k at (drop at bytes))) one-left ∙ ap (withEntries (take i out)) (s (count - (i + 1)))) in
           let z : _≡_ {A = ℕ} 0 1 = cc in
           omega arith
 
@@ -185,7 +184,7 @@ module _ (bytes : List ℕ) (count : ℕ) where
     filling-end all =
         let es : List ℕ = take count out ++ (at ∷ []) in
         let none : count - i ≡ 0 = omega arith in
-        let index : indexOf count bytes ≡ entries es = f .index ∙ ap (λ (k : ℕ). after (take i out) (indexFrom k at (drop at bytes))) none ∙ ap (λ (k : ℕ). entries (take k out ++ (at ∷ []))) all in
+        let index : indexOf count bytes ≡ entries es = f .index ∙ ap (λ (k : ℕ). withEntries (take i out) (indexFrom k at (drop at bytes))) none ∙ ap (λ (k : ℕ). entries (take k out ++ (at ∷ []))) all in
         let long : length es ≡ suc count = length-append (take count out) (at ∷ []) ∙ ap (λ (k : ℕ). k + 1) (length-take-le count out (omega (arith, f .size))) ∙ add-one count in
         let behind : drop (suc count) out ≡ drop (length es) old =
         ap (λ (k : ℕ). drop k out) (sym (add-one count)) ∙ sym (drop-drop 1 count out) ∙ ap (drop 1) (subst (λ (k : ℕ). drop k out ≡ drop k old) all (f .kept)) ∙ drop-drop 1 count old ∙ ap (λ (k : ℕ). drop k old) (add-one count ∙ sym long)

@@ -1,18 +1,17 @@
 -- Laws of low bits and packed bytes, for every width.
-use Prim.Native.Nat.{ℕ, zero, suc, _+_, _-_, _*_, _/_, _%_, _^_, _≤_, _<_, zero-le}
-use mathlib.Core.Path.{_≡_, refl, sym, ap, ap₂, _∙_, subst}
+use Prim.Native.Nat.{ℕ, zero, suc, _+_, _-_, _*_, _/_, _%_, _^_, _<_}
+use mathlib.Core.Path.{_≡_, refl, sym, ap, ap₂, _∙_}
 use mathlib.Core.Bool.{Bool, true, false}
-use mathlib.Core.List.{List, [], _∷_, _++_, append-assoc, append-nil}
-use mathlib.Core.Logic.{_⊎_, inl, inr}
-use native.Mathlib.Nat.{pow-suc, pow-zero, mod-lt, mod-one, div-div-eq-div-mul, mul-comm, zero-lt-suc, add-comm, suc-add, zero-add, div-one, add-mul-div-right, add-mul-mod-self-right, mod-eq-of-lt, div-eq-of-lt, zero-mul, one-mul, lt-of-lt-of-le}
+use mathlib.Core.List.{List, [], _∷_, _++_}
+use native.Mathlib.Nat.{pow-suc, mod-one, div-div-eq-div-mul, mul-comm, zero-lt-suc, suc-add, zero-add, div-one, add-mul-div-right, add-mul-mod-self-right, mod-eq-of-lt, div-eq-of-lt, zero-mul, one-mul, lt-of-lt-of-le}
 use native.Mathlib.Numerals.{add-one}
 use native.Mathlib.Decide.{decLt}
 use native.Mathlib.Omega.{arith}
-use lib.ListN.{length, take, drop, getD, replicate, length-append, length-take, length-drop, List·getD-append}
+use lib.ListN.{length, take, drop, getD, length-append, length-take, length-drop, List·getD-append}
 use lib.Seq.{getD-append-add, take-suc, getD-drop, length-take-le}
 use lib.Pow.{pow-pos, pow-mono, pow-lt}
 use lib.Arith.{mod-mul}
-use Rattle.codec.specs.Bits.{isOne, digit, lowBits, valueOf, bitsOf, packBytes, packBits, bytesFor}
+use Rattle.codec.specs.Bits.{isOne, digit, lowBits, valueOf, bitsOf}
 
 pub length-low : (k n : ℕ) → length (lowBits k n) ≡ k
 unfolding lowBits

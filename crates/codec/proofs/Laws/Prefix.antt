@@ -12,10 +12,10 @@ use native.Mathlib.Decide.{decLt}
 use native.Mathlib.Omega.{arith}
 use lib.ListN.{length, getD, drop, drop-of-length-le, length-drop}
 use lib.Dec.{ltb, eqb, lit<}
-use borrow.Author.Tests.{lt-ltb, le-ltb, eq-eqb, ne-eqb, ltb-true, ltb-false, eqb-true, eqb-false}
-use Rattle.codec.specs.Prefix.{prefixIn, lastOf}
-use Rattle.codec.specs.declared.prefix.Prefix.the-variants.{Whole, Refused}
-use Rattle.base.specs.declared.Refusal.the-variants as refusal
+use borrow.Author.Tests.{lt-ltb, le-ltb, eq-eqb, ne-eqb, ltb-true, ltb-false}
+use Rattle.codec.specs.Prefix.{prefixIn}
+use Rattle.codec.specs.Inside.Prefixes.{lastOf}
+use Rattle.base.specs.Answers.{refused, done}
 use Rattle.codec.specs.Bits.{AreBytes}
 use Rattle.codec.specs.Prefix.{lebIn, prefixOf, ReadLeb, whole, cut, bad, lift, readLeb, narrow, readPrefix}
 
@@ -195,7 +195,7 @@ prefix-in-last bytes v i b h = go (eqb i 0 || not (eqb b 0)) (ltb (v + 2 ^ (7 * 
     n = simp length-drop (omega arith)
 
     go : (t u : Bool) → ltb (v + 2 ^ (7 * i) * b) (2 ^ 32) ≡ u
-        → prefixIn (length bytes) (narrow (lift v (2 ^ (7 * i)) (cond t (whole b (drop (suc i) bytes)) bad))) ≡ cond (u && t) (Whole (v + 2 ^ (7 * i) * b) (i + 1)) (Refused refusal.Damaged)
+        → prefixIn (length bytes) (narrow (lift v (2 ^ (7 * i)) (cond t (whole b (drop (suc i) bytes)) bad))) ≡ cond (u && t) (done ((v + 2 ^ (7 * i) * b) ∷ (i + 1) ∷ [])) (refused 5)
     go true true e = rw (e, n)
     go true false e = rw e
     go false true e = refl
@@ -226,16 +226,16 @@ leb-behind (suc k) first (b ∷ bytes) n rest e = go (ltb b 128) (first || not (
         (suc (i .0), omega (arith, i .1), i .2)
 
 -- the number and the length that the answer tells, and the bytes behind that length
-pub prefix-behind : (bytes : List ℕ) (v len : ℕ) → Whole v len ≡ prefixIn (length bytes) (readPrefix bytes) → (readPrefix bytes ≡ whole v (drop len bytes)) × (len ≤ length bytes) × (v < 2 ^ 32)
+pub prefix-behind : (bytes : List ℕ) (v len : ℕ) → done (v ∷ len ∷ []) ≡ prefixIn (length bytes) (readPrefix bytes) → (readPrefix bytes ≡ whole v (drop len bytes)) × (len ≤ length bytes) × (v < 2 ^ 32)
 unfolding readPrefix
 prefix-behind bytes v len e = go (readLeb 5 true bytes) refl e
   where
-    go : (r : ReadLeb) → readLeb 5 true bytes ≡ r → Whole v len ≡ prefixIn (length bytes) (narrow r) → (narrow r ≡ whole v (drop len bytes)) × (len ≤ length bytes) × (v < 2 ^ 32)
+    go : (r : ReadLeb) → readLeb 5 true bytes ≡ r → done (v ∷ len ∷ []) ≡ prefixIn (length bytes) (narrow r) → (narrow r ≡ whole v (drop len bytes)) × (len ≤ length bytes) × (v < 2 ^ 32)
     go cut q e = let x : _≡_ {A = ℕ} 0 1 = cc in absurd (omega arith)
     go bad q e = let x : _≡_ {A = ℕ} 0 1 = cc in absurd (omega arith)
     go (whole n rest) q e = small (ltb n (2 ^ 32)) refl e
       where
-        small : (t : Bool) → ltb n (2 ^ 32) ≡ t → Whole v len ≡ prefixIn (length bytes) (cond t (whole n rest) bad) → (cond t (whole n rest) bad ≡ whole v (drop len bytes)) × (len ≤ length bytes) × (v < 2 ^ 32)
+        small : (t : Bool) → ltb n (2 ^ 32) ≡ t → done (v ∷ len ∷ []) ≡ prefixIn (length bytes) (cond t (whole n rest) bad) → (cond t (whole n rest) bad ≡ whole v (drop len bytes)) × (len ≤ length bytes) × (v < 2 ^ 32)
         small false p e = let x : _≡_ {A = ℕ} 0 1 = cc in absurd (omega arith)
         small true p e =
             let b = leb-behind 5 true bytes n rest q in

@@ -14,11 +14,11 @@ use Rattle.base.proofs.Bools.{or-false}
 use Rattle.base.proofs.Tests.{when-yes, when-no}
 use Rattle.codec.specs.Bits.{AreBytes}
 use Rattle.codec.specs.Codes.{gamma, got, readGamma}
-use Rattle.codec.specs.Prefix.{prefixOf, ReadLeb, whole, cut, bad, readPrefix, prefixIn}
+use Rattle.codec.specs.Prefix.{prefixOf, ReadLeb, whole, cut, bad, readPrefix, ofPrefix, prefixIn}
 use Rattle.codec.specs.Sets.{Within, Decoded, set, noSet, decodeSet}
-use Rattle.codec.specs.Payloads.{PayloadOf, setIds}
-use Rattle.codec.specs.Records.{recordOf, found, payloadSet, afterPrefix, readRecord, badColors, readBy, readInto, upOf}
-use Rattle.codec.specs.declared.prefix.Prefix.{Prefix}
+use Rattle.codec.specs.Inside.Payloads.{PayloadOf, setIds}
+use Rattle.codec.specs.Records.{recordOf, found, payloadSet, afterPrefix, readRecord, badColors, readBy, readInto}
+use Rattle.codec.specs.Inside.Prefixes.{upGiven}
 use Rattle.codec.specs.declared.prefix.Prefix.the-variants.{Refused}
 use Rattle.codec.specs.declared.sets.Payload.the-variants.{Ids}
 use Rattle.codec.proofs.Laws.Codes.{gamma-read}
@@ -70,19 +70,18 @@ module _ (N : ℕ) (input out : List ℕ) (good : badColors N ≡ false) where
   by-prefix r e = when-no _ _ _ good ∙ ap (λ (q : ReadLeb). readBy (afterPrefix N q) (length input) out) e
 
   -- a prefix that isn't whole
-  pub read-up : (r : Refusal) → Refused r ≡ prefixIn (length input) (readPrefix input) → (ofGiven (upOf (Refused r)), out) ≡ readInto N input out
+  pub read-up : (r : Refusal) → ofPrefix (Refused r) ≡ prefixIn (length input) (readPrefix input) → (ofGiven (upGiven (Refused r)), out) ≡ readInto N input out
   unfolding readBy
   read-up r e = go (readPrefix input) refl e
     where
-      go : (q : ReadLeb) → readPrefix input ≡ q → Refused r ≡ prefixIn (length input) q → (ofGiven (upOf (Refused r)), out) ≡ readInto N input out
+      go : (q : ReadLeb) → readPrefix input ≡ q → ofPrefix (Refused r) ≡ prefixIn (length input) q → (ofGiven (upGiven (Refused r)), out) ≡ readInto N input out
       go (whole n rest) s e = let x : _≡_ {A = ℕ} 0 1 = cc in absurd (omega arith)
-      go cut s e = ap (λ (p : Prefix). (ofGiven (upOf p), out)) e ∙ sym (by-prefix cut s)
-      go bad s e = ap (λ (p : Prefix). (ofGiven (upOf p), out)) e ∙ sym (by-prefix bad s)
+      go cut s e = ap (λ (a : Answer). (a, out)) e ∙ sym (by-prefix cut s)
+      go bad s e = ap (λ (a : Answer). (a, out)) e ∙ sym (by-prefix bad s)
 
   pub read-whole : (v len : ℕ) → readPrefix input ≡ whole v (drop len input) → readBy (afterPrefix N (whole v (drop len input))) (length input) out ≡ readInto N input out
   read-whole v len e = sym (by-prefix (whole v (drop len input)) e)
 
--- N is within its limits
 -- ---- what is accepted
 
 -- a record is read exactly where the written record of a set stands

@@ -1,19 +1,18 @@
 -- Laws of records and record files.
-use Prim.Native.Nat.{ℕ, zero, suc, _+_, _-_, _*_, _^_, _≤_, _<_}
+use Prim.Native.Nat.{ℕ, _+_, _-_, _^_, _≤_, _<_}
 use mathlib.Core.Path.{_≡_, refl, sym, ap, ap₂, _∙_, subst}
 use mathlib.Core.Bool.{Bool, true, false, cond, _&&_}
-use mathlib.Core.List.{List, [], _∷_, _++_, append-assoc, append-nil}
-use native.Mathlib.Nat.{lt-of-lt-of-le}
+use mathlib.Core.List.{List, [], _∷_, _++_, append-assoc}
 use native.Mathlib.Omega.{arith}
 use lib.ListN.{length, take, drop, getD, length-append, take-append-drop}
 use lib.Seq.{take-at, drop-at, length-take-le, getD-append-add}
 use lib.Dec.{leb, ltb}
-use borrow.Author.Tests.{lt-ltb, le-leb, leb-true, ltb-true}
+use borrow.Author.Tests.{le-leb, leb-true, ltb-true}
 use Rattle.codec.specs.Bits.{AreBytes}
-use Rattle.codec.specs.Prefix.{lebIn, prefixOf, ReadLeb, whole, cut, bad, readLeb, narrow, readPrefix}
+use Rattle.codec.specs.Prefix.{prefixOf, ReadLeb, whole, cut, bad, readLeb, narrow, readPrefix}
 use Rattle.codec.specs.Sets.{Within, within, encodeSet, Decoded, set, noSet, decodeSet}
-use Rattle.codec.specs.Records.{recordOf, fileOf, ReadRecord, found, short, damaged, payloadSet, afterPrefix, readRecord}
-use Rattle.codec.specs.Flat.{flat, starts}
+use Rattle.codec.specs.Records.{recordOf, fileOf, found, short, payloadSet, afterPrefix, readRecord}
+use Rattle.codec.specs.Flat.{flat, bounds}
 use Rattle.codec.specs.Index.{indexFrom, indexOf, entries, stopped, andEntry, behind}
 use Rattle.codec.proofs.Laws.Prefix.{leb-only, prefix-read}
 use Rattle.codec.proofs.Laws.Sets.{decode-encode, decode-only}
@@ -82,7 +81,7 @@ module _ (N : ℕ) (some : 1 ≤ N) (most : N ≤ 2 ^ 20) where
       let n : ℕ = length p in
       rw (append-assoc (prefixOf n) p rest, prefix-read n (p ++ rest) (omega (arith, payload-size N s some most w)), le-leb n (length (p ++ rest)) (simp length-append (omega arith)), take-at p rest n refl, drop-at p rest n refl, decode-encode N s w)
 
--- ---- what the store cites
+-- ---- what the promise is made of
 
 pub within-ids : (from top : ℕ) (xs : List ℕ) → within from top xs ≡ true → Within from top xs
 unfolding within
@@ -96,8 +95,8 @@ within-ids from top (x ∷ xs) e = go (leb from x) refl (ltb x top) refl (within
 
 module _ (N : ℕ) (some : 1 ≤ N) (most : N ≤ 2 ^ 20) where
   -- the index made from a record file
-  index-from : (S : List (List ℕ)) (at : ℕ) → Sets N S → indexFrom (length S) at (flat (recordOf N) S) ≡ entries (starts (recordOf N) at S)
-  unfolding indexFrom flat starts recordOf
+  index-from : (S : List (List ℕ)) (at : ℕ) → Sets N S → indexFrom (length S) at (flat (recordOf N) S) ≡ entries (bounds (recordOf N) at S)
+  unfolding indexFrom flat bounds recordOf
   index-from [] at w = refl
   index-from (s ∷ S) at w =
       let p : List ℕ = encodeSet N s in
@@ -112,6 +111,6 @@ module _ (N : ℕ) (some : 1 ≤ N) (most : N ≤ 2 ^ 20) where
       ∙ ap (λ (t : Bool). cond t (andEntry at (indexFrom (length S) (at + (length (prefixOf n ++ p ++ rest) - length (p ++ rest)) + n) (drop n (p ++ rest)))) (stopped 4)) fits
       ∙ ap (andEntry at) (ap₂ (λ (next : ℕ) (left : List ℕ). indexFrom (length S) next left) there (drop-at p rest n refl) ∙ index-from S (at + length (prefixOf n ++ p)) (w .1))
 
-  pub index-read : (S : List (List ℕ)) → Sets N S → indexOf (length S) (fileOf N S) ≡ entries (starts (recordOf N) 0 S)
+  pub index-read : (S : List (List ℕ)) → Sets N S → indexOf (length S) (fileOf N S) ≡ entries (bounds (recordOf N) 0 S)
   unfolding indexOf
   index-read S w = index-from S 0 w

@@ -1,19 +1,18 @@
 -- Laws of sets as bits, for every N.
 use Prim.Native.Nat.{ℕ, zero, suc, _+_, _-_, _*_, _/_, _≤_, _<_}
 use mathlib.Core.Path.{_≡_, refl, sym, ap, ap₂, _∙_, subst}
-use mathlib.Core.Bool.{Bool, true, false, not, cond, _&&_}
-use mathlib.Core.List.{List, [], _∷_, _++_, map, append-assoc, append-nil}
-use native.Mathlib.Numerals.{add-one}
+use mathlib.Core.Bool.{Bool, true, false, not, cond}
+use mathlib.Core.List.{List, [], _∷_, _++_, map, append-assoc}
 use native.Mathlib.Omega.{arith}
 use lib.ListN.{length, take, drop, replicate, length-append, length-map, length-replicate, take-append-drop}
 use lib.Seq.{take-at, drop-at, length-take-le}
 use lib.Dec.{leb, ltb, eqb}
-use borrow.Author.Tests.{lt-ltb, le-ltb, le-leb, lt-leb, eq-eqb, ne-eqb, ltb-true, leb-true, eqb-true, eqb-false}
+use borrow.Author.Tests.{lt-ltb, le-leb, eq-eqb, ne-eqb, ltb-true, leb-true, eqb-true, eqb-false}
 use Rattle.base.proofs.Bools.{and-true}
-use Rattle.codec.specs.Bits.{bitsOf, packBits, AreBytes}
+use Rattle.codec.specs.Bits.{bitsOf, AreBytes}
 use Rattle.codec.specs.Codes.{delta, Read, got, end, readDelta}
 use Rattle.codec.specs.Sets.{Within, past, mapBits, idsOf, absent, gapBits, Regime, empty, sparse, bitmap, dense, regime, bodyBits, setBits, encodeSet}
-use Rattle.codec.specs.Sets.{ReadIds, given, none, thenId, andIds, readGaps, readMap, leftOut, readBody, readSet, padding, Decoded, set, noSet, padded, decodeSet}
+use Rattle.codec.specs.Sets.{ReadIds, given, none, thenId, andIds, readGaps, readMap, leftOut, readBody, readSet, padding, set, noSet, padded, decodeSet}
 use Rattle.codec.proofs.Laws.Codes.{delta-read, delta-only}
 use Rattle.codec.proofs.Laws.Bits.{packed, bits-of-pack}
 

@@ -1,7 +1,6 @@
 -- The written form, by how large the number is.
-use Prim.Native.Nat.{ℕ, zero, suc, _+_, _-_, _*_, _/_, _%_, _^_, _≤_, _<_}
-use mathlib.Core.Path.{_≡_, refl, sym, ap, _∙_}
-use mathlib.Core.Bool.{Bool, true, false, cond}
+use Prim.Native.Nat.{ℕ, zero, suc, _+_, _-_, _/_, _%_, _^_, _≤_, _<_}
+use mathlib.Core.Path.{_≡_, ap, _∙_}
 use mathlib.Core.List.{List, [], _∷_, _++_}
 use native.Mathlib.Omega.{arith}
 use borrow.Author.Tests.{lt-ltb, le-ltb}
@@ -47,8 +46,8 @@ module _ (n : ℕ) where
       leb-more 4 n a
       ∙ ap (λ (l : List ℕ). (n % 128 + 128) ∷ l) (leb-more 3 (n / 128) b ∙ ap (λ (l : List ℕ). (n / 128 % 128 + 128) ∷ l) (leb-more 2 (n / 128 / 128) c ∙ ap (λ (l : List ℕ). (n / 128 / 128 % 128 + 128) ∷ l) (leb-more 1 (n / 128 / 128 / 128) d ∙ ap (λ (l : List ℕ). (n / 128 / 128 / 128 % 128 + 128) ∷ l) (leb-last 0 (n / 128 / 128 / 128 / 128) (omega arith)))))
 
-pub put-all : (vs out : List ℕ) → length vs ≤ length out → sets out 0 vs ≡ vs ++ drop (length vs) out
-put-all vs out h = sets-eq vs out 0 (omega arith) ∙ ap (λ (k : ℕ). vs ++ drop k out) (zero-add (length vs))
+pub groups-put : (vs out : List ℕ) → length vs ≤ length out → sets out 0 vs ≡ vs ++ drop (length vs) out
+groups-put vs out h = sets-eq vs out 0 (omega arith) ∙ ap (λ (k : ℕ). vs ++ drop k out) (zero-add (length vs))
 
 leb-some : (k n : ℕ) → 1 ≤ length (lebIn (suc k) n)
 leb-some k n = go (decLt n 128)

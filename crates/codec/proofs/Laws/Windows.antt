@@ -3,18 +3,18 @@ use Prim.Native.Nat.{ℕ, zero, suc, _+_, _-_, _*_, _/_, _%_, _^_, _≤_, _<_}
 use mathlib.Core.Path.{_≡_, refl, sym, ap, ap₂, _∙_, subst}
 use mathlib.Core.Bool.{Bool, true, false}
 use mathlib.Core.List.{List, [], _∷_, _++_, append-assoc, append-nil}
-use native.Mathlib.Nat.{mul-comm, div-div-eq-div-mul, pow-suc, mod-lt, suc-add, zero-add, add-zero}
+use native.Mathlib.Nat.{mul-comm, div-div-eq-div-mul, pow-suc, mod-lt, suc-add, zero-add}
 use native.Mathlib.Numerals.{add-one}
 use native.Mathlib.Omega.{arith}
-use lib.ListN.{length, take, drop, getD, replicate, length-append, length-drop, take-append-drop, drop-of-length-le, replicate-append-replicate}
+use lib.ListN.{length, take, drop, getD, replicate, length-drop, take-append-drop, drop-of-length-le, replicate-append-replicate}
 use lib.Seq.{drop-cons, drop-at, take-at, drop-drop, take-append-le, drop-append-le}
 use lib.Count.{trailingZeros, under}
-use lib.Pow.{pow-pos, pow-mono}
-use Rattle.codec.specs.Bits.{isOne, lowBits, valueOf, bitsOf}
-use Rattle.codec.specs.Codes.{highBit, gamma, delta, Read, got, end, andThen, readZeros, readLow, readGamma, readDelta}
-use Rattle.codec.specs.Windows.{Window}
-use Rattle.codec.specs.Places.{FoundAt}
-use Rattle.codec.specs.declared.codes.Found.the-variants.{Value}
+use lib.Pow.{pow-pos}
+use Rattle.codec.specs.Bits.{lowBits, valueOf, bitsOf}
+use Rattle.codec.specs.Codes.{highBit, gamma, delta, Read, got, end, readDelta}
+use Rattle.codec.specs.Inside.Windows.{Window}
+use Rattle.codec.specs.Inside.Places.{ReadCodeAt}
+use Rattle.codec.specs.declared.codes.ReadCode.the-variants.{Value}
 use Rattle.codec.proofs.Laws.Low.{length-low, low-add, low-mod, low-join, value-low, length-bits}
 use Rattle.codec.proofs.Laws.Codes.{high-unique, delta-read}
 use Rattle.codec.proofs.Laws.Bits.{low-top, low-more, joined-lt}
@@ -159,7 +159,7 @@ pub word-window : (bits : List Bool) (r : ℕ) (rest : List Bool) → bits ≡ l
 word-window bits r rest e = (_, ap (λ (l : List Bool). l ++ replicate 64 false) e ∙ append-assoc (lowBits 64 r) rest (replicate 64 false))
 
 -- a code that the window at byte k shows whole is the one that is read
-pub window-found : (xs : List ℕ) (k at r : ℕ) → Window xs k r → (v n : ℕ) → (lowBits n (r / 2 ^ (at - 8 * k)) ≡ delta v) × (n ≤ 29) → 8 * k ≤ at → at + n ≤ 8 * k + 64 → at + n ≤ 8 * length xs → FoundAt readDelta xs at (Value v (at + n))
+pub window-found : (xs : List ℕ) (k at r : ℕ) → Window xs k r → (v n : ℕ) → (lowBits n (r / 2 ^ (at - 8 * k)) ≡ delta v) × (n ≤ 29) → 8 * k ≤ at → at + n ≤ 8 * k + 64 → at + n ≤ 8 * length xs → ReadCodeAt readDelta xs at (Value v (at + n))
 window-found xs k at r w v n c low high h =
     let past : ℕ = at - 8 * k in
     let here : List Bool = bitsOf (drop k xs) in

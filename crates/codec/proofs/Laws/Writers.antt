@@ -1,5 +1,5 @@
 -- Laws of a bit writer: what one leaves, the next takes over.
-use Prim.Native.Nat.{ℕ, _+_, _-_, _*_, _≤_, _<_}
+use Prim.Native.Nat.{ℕ, _+_, _-_, _≤_}
 use mathlib.Core.Path.{_≡_, refl, sym, ap, _∙_}
 use mathlib.Core.Bool.{Bool}
 use mathlib.Core.List.{List, [], _++_, append-assoc, append-nil}
@@ -7,7 +7,7 @@ use native.Mathlib.Nat.{le-refl, le-trans}
 use native.Mathlib.Omega.{arith}
 use lib.ListN.{length, drop, length-append}
 use lib.Seq.{drop-drop}
-use Rattle.codec.specs.Writers.{streamOf, Ready, Wrote}
+use Rattle.codec.specs.Inside.Writers.{streamOf, Ready, Wrote}
 use Rattle.codec.specs.declared.bits.BitWriter.{BitWriter}
 
 pub wrote-none : (out : List ℕ) (w : BitWriter) (spare : ℕ) → Ready out w spare → Wrote out out w w []

@@ -15,9 +15,11 @@ use Rattle.base.proofs.Tests.{when-yes, when-no}
 use Rattle.base.proofs.Bools.{not-no, not-yes, and-true, false-true}
 use Rattle.runs.specs.Words.{offset, coordinate, pack}
 use Rattle.runs.specs.Colours.{lastRun, firstCoord, lastCoord}
-use Rattle.runs.specs.Orders.{mostVertices, steady, sharp, Steady}
+use Rattle.runs.specs.Orders.{mostVertices, steady, sharp}
+use Rattle.runs.specs.Inside.Lists.{Steady}
 use Rattle.runs.specs.Reverse.{oriented}
-use Rattle.runs.specs.Append.{shifted, skip, appendix, appendRuns, joinable, badCounts, Admitted, resultInto, appendInto}
+use Rattle.runs.specs.Append.{shifted, skip, appendix, appendRuns, joinable, badCounts, resultInto, appendInto}
+use Rattle.runs.specs.Inside.Pieces.{Admitted}
 use Rattle.runs.proofs.Laws.Orders.{sharp-yes, sharp-steady, steady-yes}
 use Rattle.runs.proofs.Laws.Reverse.{oriented-long}
 

@@ -1,7 +1,6 @@
 -- Laws of run bytes.
 use Prim.Native.Nat.{ℕ, zero, suc, _+_, _-_, _*_, _/_, _%_, _^_, _≤_, _<_}
 use mathlib.Core.Path.{_≡_, refl, sym, ap, ap₂, _∙_, subst}
-use mathlib.Core.Logic.{_⊎_, inl, inr, ⊎-elim}
 use mathlib.Core.Bool.{Bool, true, false}
 use mathlib.Core.List.{List, [], _∷_, _++_, append-assoc}
 use native.Mathlib.Omega.{arith}
@@ -13,22 +12,21 @@ use lib.Dec.{ltb, lit<}
 use Rattle.base.specs.Tests.{_when_else_}
 use Rattle.base.specs.Answers.{Answer, refused, done, numberOf, ofGiven}
 use Rattle.base.specs.declared.Refusal.{Refusal}
-use Rattle.base.specs.declared.Refusal.the-variants as refusal
 use Rattle.base.specs.Parts.{over}
 use Rattle.base.proofs.Tests.{when-yes, when-no}
 use Rattle.base.proofs.Bools.{not-no, not-yes}
 use Rattle.base.proofs.Parts.{over-behind, tail-is, put-tail}
 use Rattle.codec.specs.Bits.{AreBytes}
 use Rattle.codec.specs.Flat.{flat}
-use Rattle.codec.specs.Prefix.{prefixOf, ReadLeb, whole, cut, bad, readPrefix, prefixIn, writePrefix}
+use Rattle.codec.specs.Prefix.{prefixOf, ReadLeb, whole, cut, bad, readPrefix, ofPrefix, prefixIn, writePrefix}
 use Rattle.codec.specs.declared.prefix.Prefix.the-variants as prefix
 use Rattle.codec.proofs.Laws.Prefix.{prefix-read, prefix-behind}
 use Rattle.codec.proofs.Laws.Records.{prefix-only}
 use Rattle.runs.specs.Words.{AreWords}
 use Rattle.runs.specs.Orders.{mostVertices, steady}
 use Rattle.runs.specs.Rotate.{rotateRuns}
-use Rattle.runs.specs.Bytes.{leBytes, leValue, runBytes, words, ReadRuns, found, short, damaged, afterCount, readRuns, sizeOfRuns, writeRuns, givenIn, readInto, sizeOfRotated, writeRotated, sharpIn, sharpBytes, colourIn, upOf, unreadOf}
-use Rattle.runs.specs.declared.bytes.Colored.the-variants.{Refused}
+use Rattle.runs.specs.Bytes.{leBytes, leValue, runBytes, words, ReadRuns, found, short, afterCount, readRuns, writeRuns, givenIn, readRunsInto, writeRotated, sharpColourIn}
+use Rattle.codec.specs.Inside.Prefixes.{upGiven}
 use Rattle.runs.proofs.Laws.Lists.{Filled}
 
 pub length-le : (k w : ℕ) → length (leBytes k w) ≡ k
@@ -136,14 +134,6 @@ word-first bytes at count w h e = e ∙ sym (word-is count (drop at bytes) 0 h)
 
 -- ---- writing
 
-pub size-6 : (ws : List ℕ) → 4294967295 < length ws → refused 6 ≡ sizeOfRuns ws
-unfolding sizeOfRuns
-size-6 ws h = sym (when-yes _ _ _ (lt-ltb _ _ h))
-
-pub size-done : (ws : List ℕ) (k : ℕ) → length ws ≤ 4294967295 → k ≡ length (prefixOf (length ws)) + 8 * length ws → done (k ∷ []) ≡ sizeOfRuns ws
-unfolding sizeOfRuns
-size-done ws k h e = ap (λ (x : ℕ). done (x ∷ [])) (e ∙ sym (length-bytes ws)) ∙ sym (when-no _ _ _ (le-ltb _ _ h))
-
 module _ (ws out : List ℕ) where
   pub write-6 : 4294967295 < length ws → _≡_ {A = Answer × List ℕ} (refused 6, out) (writeRuns ws out)
   unfolding writeRuns
@@ -250,16 +240,16 @@ words-only (suc k) bs l h =
     first a zero = value-lt 8 bs h
     first a (suc i) = a i
 
-pub record Accepted (bytes ws rest : List ℕ) : Type 0 where
+pub record RunsAccepted (bytes ws rest : List ℕ) : Type 0 where
   pub count : length ws < 2 ^ 32
   pub words : AreWords ws
   pub are : bytes ≡ runBytes ws ++ rest
 
-pub read-only : (bytes ws rest : List ℕ) → AreBytes bytes → readRuns bytes ≡ found ws rest → Accepted bytes ws rest
+pub read-only : (bytes ws rest : List ℕ) → AreBytes bytes → readRuns bytes ≡ found ws rest → RunsAccepted bytes ws rest
 unfolding readRuns afterCount _when_else_ runBytes
 read-only bytes ws rest h e = go (readPrefix bytes) refl e
   where
-    go : (r : ReadLeb) → readPrefix bytes ≡ r → afterCount r ≡ found ws rest → Accepted bytes ws rest
+    go : (r : ReadLeb) → readPrefix bytes ≡ r → afterCount r ≡ found ws rest → RunsAccepted bytes ws rest
     go cut q e = let z : _≡_ {A = ℕ} 0 1 = cc in absurd (omega arith)
     go bad q e = let z : _≡_ {A = ℕ} 0 1 = cc in absurd (omega arith)
     go (whole k more) q e = room (ltb (length more) (8 * k)) refl e
@@ -270,7 +260,7 @@ read-only bytes ws rest h e = go (readPrefix bytes) refl e
         more-bytes : AreBytes more
         more-bytes i = subst (λ (x : ℕ). x < 256) (ap (λ (l : List ℕ). getD l (length (prefixOf k) + i) 0) (p .0) ∙ getD-append-add (prefixOf k) more i 0) (h (length (prefixOf k) + i))
 
-        all : 8 * k ≤ length more → Accepted bytes (words k more) (drop (8 * k) more)
+        all : 8 * k ≤ length more → RunsAccepted bytes (words k more) (drop (8 * k) more)
         all l =
             let r = words-only k more l more-bytes in
             let n : length (words k more) ≡ k = length-words k more in
@@ -284,12 +274,12 @@ read-only bytes ws rest h e = go (readPrefix bytes) refl e
                   ∙ ap (λ (x : ℕ). (prefixOf x ++ flat (leBytes 8) (words k more)) ++ drop (8 * k) more) (sym n);
             }
 
-        room : (t : Bool) → ltb (length more) (8 * k) ≡ t → (short when t else found (words k more) (drop (8 * k) more)) ≡ found ws rest → Accepted bytes ws rest
+        room : (t : Bool) → ltb (length more) (8 * k) ≡ t → (short when t else found (words k more) (drop (8 * k) more)) ≡ found ws rest → RunsAccepted bytes ws rest
         room true b e = let z : _≡_ {A = ℕ} 0 1 = cc in absurd (omega arith)
         room false b e =
             let v : words k more ≡ ws = cc in
             let d : drop (8 * k) more ≡ rest = cc in
-            subst (λ (x : List ℕ). Accepted bytes x rest) v (subst (λ (x : List ℕ). Accepted bytes (words k more) x) d (all (ltb-false _ _ b)))
+            subst (λ (x : List ℕ). RunsAccepted bytes x rest) v (subst (λ (x : List ℕ). RunsAccepted bytes (words k more) x) d (all (ltb-false _ _ b)))
 
 -- ---- what reading answers, behind a count of k
 
@@ -326,45 +316,36 @@ module _ (total k : ℕ) (rest out : List ℕ) where
 -- ---- a count that isn't whole, and one that is
 
 module _ (bytes : List ℕ) where
-  up-runs : (r : Refusal) → prefix.Refused r ≡ prefixIn (length bytes) (readPrefix bytes) → ((r ≡ refusal.Cut) × (readRuns bytes ≡ short)) ⊎ ((r ≡ refusal.Damaged) × (readRuns bytes ≡ damaged))
-  unfolding readRuns afterCount
-  up-runs r e = go (readPrefix bytes) refl e
+  -- by what is read of the count
+  by-count : (q : ReadLeb) → readPrefix bytes ≡ q → readRuns bytes ≡ afterCount q
+  unfolding readRuns
+  by-count q e = ap afterCount e
+
+  pub read-up : (out : List ℕ) (r : Refusal) → ofPrefix (prefix.Refused r) ≡ prefixIn (length bytes) (readPrefix bytes) → (ofGiven (upGiven (prefix.Refused r)), out) ≡ readRunsInto bytes out
+  unfolding givenIn afterCount
+  read-up out r e = go (readPrefix bytes) refl e
     where
-      go : (q : ReadLeb) → readPrefix bytes ≡ q → prefix.Refused r ≡ prefixIn (length bytes) q → ((r ≡ refusal.Cut) × (readRuns bytes ≡ short)) ⊎ ((r ≡ refusal.Damaged) × (readRuns bytes ≡ damaged))
+      go : (q : ReadLeb) → readPrefix bytes ≡ q → ofPrefix (prefix.Refused r) ≡ prefixIn (length bytes) q → (refused (numberOf r), out) ≡ readRunsInto bytes out
       go (whole n rest) s e = let x : _≡_ {A = ℕ} 0 1 = cc in absurd (omega arith)
-      go cut s e = inl (cc, ap afterCount s)
-      go bad s e = inr (cc, ap afterCount s)
+      go cut s e = ap (λ (a : Answer). (a, out)) e ∙ sym (ap (λ (q : ReadRuns). givenIn (length bytes) q out) (by-count cut s))
+      go bad s e = ap (λ (a : Answer). (a, out)) e ∙ sym (ap (λ (q : ReadRuns). givenIn (length bytes) q out) (by-count bad s))
 
-  pub read-up : (out : List ℕ) (r : Refusal) → prefix.Refused r ≡ prefixIn (length bytes) (readPrefix bytes) → (ofGiven (upOf (prefix.Refused r)), out) ≡ readInto bytes out
-  unfolding givenIn
-  read-up out r e =
-      ⊎-elim (λ p. ap (λ (x : Refusal). (refused (numberOf x), out)) (p .0) ∙ sym (ap (λ (q : ReadRuns). givenIn (length bytes) q out) (p .1))) (λ p. ap (λ (x : Refusal). (refused (numberOf x), out)) (p .0) ∙ sym (ap (λ (q : ReadRuns). givenIn (length bytes) q out) (p .1))) (up-runs r e)
+  pub color-up : (n vertex : ℕ) (r : Refusal) → ofPrefix (prefix.Refused r) ≡ prefixIn (length bytes) (readPrefix bytes) → refused (numberOf r) ≡ sharpColourIn n vertex (readRuns bytes)
+  unfolding sharpColourIn afterCount
+  color-up n vertex r e = go (readPrefix bytes) refl e
+    where
+      go : (q : ReadLeb) → readPrefix bytes ≡ q → ofPrefix (prefix.Refused r) ≡ prefixIn (length bytes) q → refused (numberOf r) ≡ sharpColourIn n vertex (readRuns bytes)
+      go (whole n rest) s e = let x : _≡_ {A = ℕ} 0 1 = cc in absurd (omega arith)
+      go cut s e = e ∙ sym (ap (sharpColourIn n vertex) (by-count cut s))
+      go bad s e = e ∙ sym (ap (sharpColourIn n vertex) (by-count bad s))
 
-  pub color-up : (vertex : ℕ) (r : Refusal) → prefix.Refused r ≡ prefixIn (length bytes) (readPrefix bytes) → unreadOf (prefix.Refused r) ≡ colourIn vertex (readRuns bytes)
-  color-up vertex r e = ⊎-elim (λ p. ap Refused (p .0) ∙ sym (ap (colourIn vertex) (p .1))) (λ p. ap Refused (p .0) ∙ sym (ap (colourIn vertex) (p .1))) (up-runs r e)
-
-  pub sharp-up : (n : ℕ) (r : Refusal) → prefix.Refused r ≡ prefixIn (length bytes) (readPrefix bytes) → false ≡ sharpBytes n bytes
-  sharp-up n r e = ⊎-elim (λ p. sym (ap (sharpIn n) (p .1))) (λ p. sym (ap (sharpIn n) (p .1))) (up-runs r e)
-
-  pub count-behind : (k len : ℕ) → prefix.Whole k len ≡ prefixIn (length bytes) (readPrefix bytes) → (afterCount (whole k (drop len bytes)) ≡ readRuns bytes) × (len ≤ length bytes)
+  pub count-behind : (k len : ℕ) → ofPrefix (prefix.Whole k len) ≡ prefixIn (length bytes) (readPrefix bytes) → (afterCount (whole k (drop len bytes)) ≡ readRuns bytes) × (len ≤ length bytes)
   unfolding readRuns
   count-behind k len e = let b = prefix-behind bytes k len e in (ap afterCount (sym (b .0)), b .1)
 
 -- ---- the turned cycle as bytes
 
 module _ (ws : List ℕ) (n pivot : ℕ) (r : Bool) where
-  pub size-turned-7 : mostVertices < n → refused 7 ≡ sizeOfRotated ws n pivot r
-  unfolding sizeOfRotated
-  size-turned-7 h = sym (when-yes _ _ _ (lt-ltb _ _ h))
-
-  pub size-turned-6 : n ≤ mostVertices → steady n ws ≡ false → refused 6 ≡ sizeOfRotated ws n pivot r
-  unfolding sizeOfRotated
-  size-turned-6 h s = sym (when-no _ _ _ (le-ltb _ _ h) ∙ when-yes _ _ _ (not-yes _ s))
-
-  pub size-turned : n ≤ mostVertices → steady n ws ≡ true → sizeOfRuns (rotateRuns n pivot r ws) ≡ sizeOfRotated ws n pivot r
-  unfolding sizeOfRotated
-  size-turned h s = sym (when-no _ _ _ (le-ltb _ _ h) ∙ when-no _ _ _ (not-no _ s))
-
   module _ (out : List ℕ) where
     pub write-turned-7 : mostVertices < n → _≡_ {A = Answer × List ℕ} (refused 7, out) (writeRotated ws n pivot r out)
     unfolding writeRotated

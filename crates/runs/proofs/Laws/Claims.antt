@@ -14,12 +14,13 @@ use Rattle.base.specs.Parts.{over}
 use Rattle.base.proofs.Tests.{when-no}
 use Rattle.runs.specs.Words.{offset, AreWords}
 use Rattle.runs.specs.Colours.{next, endAt, colours, starts, colourAt, lastRun, firstCoord, lastCoord}
-use Rattle.runs.specs.Orders.{mostVertices, steady, sharp, Sharp, listInto}
+use Rattle.runs.specs.Orders.{mostVertices, steady, sharp, listInto}
+use Rattle.runs.specs.Inside.Lists.{Sharp}
 use Rattle.runs.specs.Reverse.{reverseRuns, oriented, reverseInto, reverseInPlace}
 use Rattle.runs.specs.Append.{shifted, appendRuns, badCounts, joinable}
-use Rattle.runs.specs.Rotate.{turn, firsts, runsAt, merged, rotateRuns}
-use Rattle.runs.specs.Bytes.{runBytes, ReadRuns, givenIn, readInto}
-use Rattle.runs.proofs.Laws.Orders.{steady-yes, yes-steady, sharp-yes, yes-sharp, sharp-steady, begins}
+use Rattle.runs.specs.Rotate.{turnLeft, firsts, runsAt, merged, rotateRuns}
+use Rattle.runs.specs.Bytes.{runBytes, ReadRuns, givenIn, readRunsInto}
+use Rattle.runs.proofs.Laws.Orders.{steady-yes, yes-steady, sharp-yes, yes-sharp, sharp-steady, run-begins}
 use Rattle.runs.proofs.Laws.Colours.{length-colours, steady-long, steady-at, colour-steady}
 use Rattle.runs.proofs.Laws.Reverse as back
 use Rattle.runs.proofs.Laws.Merge.{colours-merged, merged-sharp, starts-merged}
@@ -38,7 +39,7 @@ colour-of-vertex n ws v s h l = colour-steady n ws v (steady-yes n ws s) h l
 pub first-colour : (n : ℕ) (ws : List ℕ) → sharp n ws ≡ true → firstCoord ws ≡ getD (colours n ws) 0 0
 first-colour n ws e =
     let s = sharp-yes n ws e in
-    let b : next n (drop 0 ws) ≡ 0 = begins n ws 0 (s .some) ∙ s .first in
+    let b : next n (drop 0 ws) ≡ 0 = run-begins n ws 0 (s .some) ∙ s .first in
     let u : offset (getD ws 0 0) < endAt n ws 0 = s .up 0 (s .some) in
     sym (steady-at n ws (sharp-steady n ws s) (s .some) 0 0 (s .some) (omega arith) (omega (arith, s .first)))
 
@@ -48,7 +49,7 @@ last-colour n ws e =
     let l : length ws - 1 < length ws = omega (arith, s .some) in
     let d : drop (suc (length ws - 1)) ws ≡ [] = drop-of-length-le ws {i = suc (length ws - 1)} (omega (arith, s .some)) in
     let f : endAt n ws (length ws - 1) ≡ n = ap (next n) d in
-    let b : next n (drop (length ws - 1) ws) ≡ offset (lastRun ws) = begins n ws (length ws - 1) l in
+    let b : next n (drop (length ws - 1) ws) ≡ offset (lastRun ws) = run-begins n ws (length ws - 1) l in
     let u : offset (lastRun ws) < endAt n ws (length ws - 1) = s .up (length ws - 1) l in
     sym (steady-at n ws (sharp-steady n ws s) (s .some) (length ws - 1) (n - 1) l (omega arith) (omega arith))
 
@@ -71,7 +72,7 @@ module _ (n : ℕ) (ws : List ℕ) (few : n ≤ mostVertices) (list : steady n w
   reversed-twice = back.reverse-twice n ws (omega arith) (steady-yes n ws list)
 
 pub reversed-sharp : (n : ℕ) (ws : List ℕ) → n ≤ mostVertices → sharp n ws ≡ true → sharp n (reverseRuns n ws) ≡ true
-reversed-sharp n ws few list = yes-sharp n (reverseRuns n ws) (back.reversed-sharp n ws (omega arith) (sharp-yes n ws list))
+reversed-sharp n ws few list = yes-sharp n (reverseRuns n ws) (back.sharp-reversed n ws (omega arith) (sharp-yes n ws list))
 
 -- in place answers and leaves what reverse does with an output that is the list itself
 pub in-place-agrees : (ws : List ℕ) (n : ℕ) → reverseInto ws n ws ≡ reverseInPlace ws n
@@ -108,7 +109,7 @@ joined-sharp out a piece b r s t few small e =
     go : (xs os : List ℕ) → Sharp a xs → Sharp b os → sharp (a + b - 1) (xs ++ shifted (a - 1) (drop 1 os)) ≡ true
     go [] os s t = absurd (none (s .some))
     go (w ∷ ws) [] s t = absurd (none (t .some))
-    go (w ∷ ws) (o ∷ os) s t = yes-sharp (a + b - 1) ((w ∷ ws) ++ shifted (a - 1) os) (joints.joined-sharp a b w o ws os s t (omega arith))
+    go (w ∷ ws) (o ∷ os) s t = yes-sharp (a + b - 1) ((w ∷ ws) ++ shifted (a - 1) os) (joints.sharp-joined a b w o ws os s t (omega arith))
 
 -- ---- rotate
 
@@ -116,27 +117,27 @@ module _ (n pivot : ℕ) (r : Bool) (ws : List ℕ) (few : n ≤ mostVertices) (
   long : length (colours n (oriented r n ws)) ≤ n
   long = omega (arith, length-colours n (oriented r n ws) (back.oriented-steady r n ws (omega arith) (steady-yes n ws list) .up))
 
-  full : 0 < length ws → length (turn (pivot % n) (colours n (oriented r n ws))) ≡ n
+  full : 0 < length ws → length (turnLeft (pivot % n) (colours n (oriented r n ws))) ≡ n
   full h = turn-long (pivot % n) (colours n (oriented r n ws)) ∙ steady-long n (oriented r n ws) (back.oriented-steady r n ws (omega arith) (steady-yes n ws list)) (subst (λ (x : ℕ). 0 < x) (sym (back.oriented-long r n ws)) h)
 
   -- the colours of the turned list are the turned colours
-  pub rotated-colours : 0 < length ws → colours n (rotateRuns n pivot r ws) ≡ turn (pivot % n) (colours n (oriented r n ws))
+  pub rotated-colours : 0 < length ws → colours n (rotateRuns n pivot r ws) ≡ turnLeft (pivot % n) (colours n (oriented r n ws))
   unfolding rotateRuns
   rotated-colours h =
-      let k : length (turn (pivot % n) (colours n (oriented r n ws))) ≡ n = full h in
-      ap (λ (x : ℕ). colours x (merged (turn (pivot % n) (colours n (oriented r n ws))))) (sym k) ∙ colours-merged (turn (pivot % n) (colours n (oriented r n ws))) (omega arith)
+      let k : length (turnLeft (pivot % n) (colours n (oriented r n ws))) ≡ n = full h in
+      ap (λ (x : ℕ). colours x (merged (turnLeft (pivot % n) (colours n (oriented r n ws))))) (sym k) ∙ colours-merged (turnLeft (pivot % n) (colours n (oriented r n ws))) (omega arith)
 
   -- its runs start at vertex 0 and at each vertex unlike the one before
-  pub rotated-starts : starts (rotateRuns n pivot r ws) ≡ firsts (turn (pivot % n) (colours n (oriented r n ws)))
+  pub rotated-starts : starts (rotateRuns n pivot r ws) ≡ firsts (turnLeft (pivot % n) (colours n (oriented r n ws)))
   unfolding rotateRuns
-  rotated-starts = starts-merged (turn (pivot % n) (colours n (oriented r n ws))) (omega (arith, turn-long (pivot % n) (colours n (oriented r n ws)), long))
+  rotated-starts = starts-merged (turnLeft (pivot % n) (colours n (oriented r n ws))) (omega (arith, turn-long (pivot % n) (colours n (oriented r n ws)), long))
 
   -- it has runs where there are vertices and runs
-  pub rotated-some : 0 < n → 0 < length ws → Sharp n (rotateRuns n pivot r ws)
+  rotated-some : 0 < n → 0 < length ws → Sharp n (rotateRuns n pivot r ws)
   unfolding rotateRuns
   rotated-some h g =
-      let k : length (turn (pivot % n) (colours n (oriented r n ws))) ≡ n = full g in
-      subst (λ (x : ℕ). Sharp x (merged (turn (pivot % n) (colours n (oriented r n ws))))) k (merged-sharp (turn (pivot % n) (colours n (oriented r n ws))) (omega arith) (omega arith))
+      let k : length (turnLeft (pivot % n) (colours n (oriented r n ws))) ≡ n = full g in
+      subst (λ (x : ℕ). Sharp x (merged (turnLeft (pivot % n) (colours n (oriented r n ws))))) k (merged-sharp (turnLeft (pivot % n) (colours n (oriented r n ws))) (omega arith) (omega arith))
 
 -- and is empty for no vertices or no runs
 pub rotated-empty : (n pivot : ℕ) (r : Bool) (ws : List ℕ) → n ≡ 0 → steady n ws ≡ true → rotateRuns n pivot r ws ≡ []
@@ -144,7 +145,7 @@ unfolding rotateRuns merged runsAt firsts
 rotated-empty n pivot r ws z list =
     let s = back.oriented-steady r n ws (omega arith) (steady-yes n ws list) in
     let l : length (colours n (oriented r n ws)) ≡ 0 = length-colours n (oriented r n ws) (s .up) ∙ omega arith in
-    none (turn (pivot % n) (colours n (oriented r n ws))) (turn-long (pivot % n) (colours n (oriented r n ws)) ∙ l)
+    none (turnLeft (pivot % n) (colours n (oriented r n ws))) (turn-long (pivot % n) (colours n (oriented r n ws)) ∙ l)
   where
     none : (cs : List ℕ) → length cs ≡ 0 → merged cs ≡ []
     none [] e = refl
@@ -169,7 +170,7 @@ rotated-sharp n pivot r ws few list h = yes-sharp n (rotateRuns n pivot r ws) (g
 
 -- the bytes that a list is written as are read as that list, whatever stands behind them
 pub written-read : (ws rest out : List ℕ) → length ws < 2 ^ 32 → AreWords ws → length ws ≤ length out
-    → _≡_ {A = Answer × List ℕ} (readInto (runBytes ws ++ rest) out) (done (length ws ∷ length (runBytes ws) ∷ []), over ws out)
+    → _≡_ {A = Answer × List ℕ} (readRunsInto (runBytes ws ++ rest) out) (done (length ws ∷ length (runBytes ws) ∷ []), over ws out)
 unfolding givenIn
 written-read ws rest out h a l =
     let k : length (runBytes ws ++ rest) - length rest ≡ length (runBytes ws) = omega (arith, length-append (runBytes ws) rest) in

@@ -13,7 +13,7 @@ use Rattle.runs.specs.Words.{offset, coordinate}
 use Rattle.base.specs.Tests.{_when_else_}
 use Rattle.base.proofs.Tests.{when-yes, when-no}
 use Rattle.runs.specs.Colours.{next, endAt, colours, colourFrom, lastCoord}
-use Rattle.runs.specs.Orders.{Steady}
+use Rattle.runs.specs.Inside.Lists.{Steady}
 use Rattle.runs.proofs.Laws.Lists.{getD-behind}
 use Rattle.runs.proofs.Laws.Orders.{Up, tail-up, next-le, next-up, starts-zero}
 

@@ -15,8 +15,10 @@ use Rattle.base.proofs.Tests.{when-yes, when-no}
 use Rattle.base.proofs.Bools.{false-true}
 use Rattle.runs.specs.Words.{offset}
 use Rattle.runs.specs.Colours.{next, endAt}
-use Rattle.runs.specs.Orders.{steady, sharp, Steady, Sharp, fall, falls}
-use Rattle.runs.proofs.Laws.Orders.{begins, steady-yes, yes-steady, sharp-yes, yes-sharp}
+use Rattle.runs.specs.Orders.{steady, sharp}
+use Rattle.runs.specs.Inside.Lists.{Steady, Sharp}
+use Rattle.runs.specs.Inside.Falls.{fall, falls}
+use Rattle.runs.proofs.Laws.Orders.{run-begins, steady-yes, yes-steady, sharp-yes, yes-sharp}
 
 -- ---- one place
 
@@ -170,7 +172,7 @@ module _ (step n : ℕ) (ws : List ℕ) (some : 0 < length ws) where
   UpBy = (i : ℕ) → i < length ws → offset (getD ws i 0) + step ≤ endAt n ws i
 
   ends-next : (i : ℕ) → i + 1 < length ws → endAt n ws i ≡ offset (getD ws (i + 1) 0)
-  ends-next i h = begins n ws (suc i) (omega arith) ∙ ap (λ (k : ℕ). offset (getD ws k 0)) (sym (add-one i))
+  ends-next i h = run-begins n ws (suc i) (omega arith) ∙ ap (λ (k : ℕ). offset (getD ws k 0)) (sym (add-one i))
 
   ends-last : (i : ℕ) → length ws ≤ i + 1 → endAt n ws i ≡ n
   ends-last i h = ap (next n) (drop-of-length-le ws {i = suc i} (omega arith))

@@ -11,12 +11,13 @@ use Rattle.base.specs.Parts.{over}
 use Rattle.base.proofs.Parts.{length-over, over-behind, tail-is, put-tail}
 use Rattle.runs.specs.Words.{offset, coordinate, pack, AreWords}
 use Rattle.runs.specs.Colours.{endAt, firstCoord}
-use Rattle.runs.specs.Orders.{Taken}
+use Rattle.runs.specs.Inside.Lists.{Taken}
 use Rattle.runs.specs.Reverse.{reverseRuns, oriented}
-use Rattle.runs.specs.Append.{shift, shifted, Movable}
+use Rattle.runs.specs.Append.{shift, shifted}
+use Rattle.runs.specs.Inside.Pieces.{Movable}
 use Rattle.runs.proofs.Laws.Lists.{Filled, fill-more, fill-end}
 use Rattle.runs.proofs.Laws.Words.{offset-pack, coordinate-pack, pack-of, coordinate-small}
-use Rattle.runs.proofs.Laws.Orders.{begins, offset-le, end-le}
+use Rattle.runs.proofs.Laws.Orders.{run-begins, offset-le, end-le}
 use Rattle.runs.proofs.Laws.Reverse.{length-reversed, reversed-at, oriented-long, oriented-steady, first-back}
 use Rattle.runs.proofs.Laws.Append.{length-shifted, shifted-at}
 
@@ -102,7 +103,7 @@ module _ (n k : ℕ) (ws : List ℕ) (t : Taken n ws) where
       let small : n < 16777216 = t .small in
       let v : getD (reverseRuns n ws) (i + 1) 0 ≡ pack (n - endAt n ws j) (coordinate (getD ws j 0)) = reversed-at n ws (i + 1) j (omega arith) in
       let s : suc j ≡ length ws - 1 - i = omega arith in
-      let b : endAt n ws j ≡ offset (getD ws (length ws - 1 - i) 0) = begins n ws (suc j) (omega arith) ∙ ap (λ (m : ℕ). offset (getD ws m 0)) s in
+      let b : endAt n ws j ≡ offset (getD ws (length ws - 1 - i) 0) = run-begins n ws (suc j) (omega arith) ∙ ap (λ (m : ℕ). offset (getD ws m 0)) s in
       let le : endAt n ws j ≤ n = end-le n ws j (t .list .up) in
       let o : offset (getD (reverseRuns n ws) (i + 1) 0) ≡ n - endAt n ws j = ap offset v ∙ offset-pack (n - endAt n ws j) (coordinate (getD ws j 0)) (omega arith) in
       let c : coordinate (getD (reverseRuns n ws) (i + 1) 0) ≡ coordinate (getD ws j 0) = ap coordinate v ∙ coordinate-pack (n - endAt n ws j) (coordinate (getD ws j 0)) (omega arith) in

@@ -11,12 +11,13 @@ use lib.Dec.{ltb, eqb}
 use Rattle.base.specs.Tests.{_when_else_}
 use Rattle.runs.specs.Words.{offset, coordinate, pack}
 use Rattle.runs.specs.Colours.{next, endAt, colours, starts, lastRun, firstCoord, lastCoord}
-use Rattle.runs.specs.Orders.{mostVertices, steady, sharp, Steady, Sharp}
+use Rattle.runs.specs.Orders.{mostVertices, steady, sharp}
+use Rattle.runs.specs.Inside.Lists.{Steady, Sharp}
 use Rattle.runs.specs.Reverse.{oriented}
 use Rattle.runs.specs.Rotate.{runsAt}
 use Rattle.runs.specs.Append.{shifted, skip, appendix, appendRuns, joinable, badCounts}
 use Rattle.runs.proofs.Laws.Words.{offset-pack, coordinate-pack, pack-of}
-use Rattle.runs.proofs.Laws.Orders.{Up, StrictUp, up-cons, strict-cons, strict-le, begins, tail-up, next-le, end-le, sharp-steady, sharp-yes, yes-steady}
+use Rattle.runs.proofs.Laws.Orders.{Up, StrictUp, up-cons, strict-cons, strict-le, run-begins, tail-up, next-le, end-le, sharp-steady, sharp-yes, yes-steady}
 use Rattle.runs.proofs.Laws.Colours.{colours-append, steady-at}
 use Rattle.runs.proofs.Laws.Reverse.{oriented-sharp}
 use Rattle.runs.proofs.Laws.Lists.{getD-behind}
@@ -249,8 +250,8 @@ appended-joinable out a piece b r good may sh = go (oriented r b piece) (oriente
 
 -- ---- a join: behind a sharp output that ends on the piece's first coordinate the list is sharp again
 
-pub joined-sharp : (a b w o : ℕ) (ws os : List ℕ) → Sharp a (w ∷ ws) → Sharp b (o ∷ os) → a + b - 1 < 16777216 → Sharp (a + b - 1) ((w ∷ ws) ++ shifted (a - 1) os)
-joined-sharp a b w o ws os s t small =
+pub sharp-joined : (a b w o : ℕ) (ws os : List ℕ) → Sharp a (w ∷ ws) → Sharp b (o ∷ os) → a + b - 1 < 16777216 → Sharp (a + b - 1) ((w ∷ ws) ++ shifted (a - 1) os)
+sharp-joined a b w o ws os s t small =
     let p : offset o < next b os = t .up 0 (omega arith) in
     let q : 0 < a = pos in
     let r = strict-shifted b (a - 1) os (tail-strict b o os (t .up)) (omega arith) in
@@ -277,6 +278,6 @@ rebuild n ws s = ext-getD 0 (map f (map offset ws)) ws (length-map (map offset w
     same : (i : ℕ) → i < length ws → getD (map f (map offset ws)) i 0 ≡ getD ws i 0
     same i h =
         let v : ℕ = offset (getD ws i 0) in
-        let b : next n (drop i ws) ≡ v = begins n ws i h in
+        let b : next n (drop i ws) ≡ v = run-begins n ws i h in
         let c : getD (colours n ws) v 0 ≡ coordinate (getD ws i 0) = steady-at n ws (sharp-steady n ws s) (s .some) i v h (omega arith) (s .up i h) in
         place ws i h ∙ ap (pack v) c ∙ pack-of (getD ws i 0)

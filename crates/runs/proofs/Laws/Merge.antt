@@ -12,9 +12,9 @@ use lib.Dec.{eqb}
 use Rattle.base.proofs.Bools.{false-true}
 use Rattle.runs.specs.Words.{offset, pack}
 use Rattle.runs.specs.Colours.{next, colours, starts}
-use Rattle.runs.specs.Orders.{Sharp}
+use Rattle.runs.specs.Inside.Lists.{Sharp}
 use Rattle.runs.specs.Rotate.{unless, changes, firsts, runsAt, merged}
-use Rattle.runs.specs.Cursor.{begins, begun, runsFrom}
+use Rattle.runs.specs.Inside.Cursor.{begins, begun, mergedFrom}
 use Rattle.runs.proofs.Laws.Words.{offset-pack, coordinate-pack}
 use Rattle.runs.proofs.Laws.Orders.{StrictUp, strict-cons}
 
@@ -36,31 +36,31 @@ begins-same at c d e = go (eqb at 0) refl (eqb c d) refl e
 
 -- ---- vertices of one colour
 
-same-on : (k at c : ℕ) (rest : List ℕ) → 0 < at → runsFrom at c (replicate k c ++ rest) ≡ runsFrom (at + k) c rest
-unfolding runsFrom
-same-on zero at c rest h = ap (λ (x : ℕ). runsFrom x c rest) (sym (add-zero at))
+same-on : (k at c : ℕ) (rest : List ℕ) → 0 < at → mergedFrom at c (replicate k c ++ rest) ≡ mergedFrom (at + k) c rest
+unfolding mergedFrom
+same-on zero at c rest h = ap (λ (x : ℕ). mergedFrom x c rest) (sym (add-zero at))
 same-on (suc k) at c rest h =
     let e : at + 1 + k ≡ at + suc k = omega arith in
-    rw (begins-no at c h) (same-on k (at + 1) c rest (omega arith) ∙ ap (λ (x : ℕ). runsFrom x c rest) e)
+    rw (begins-no at c h) (same-on k (at + 1) c rest (omega arith) ∙ ap (λ (x : ℕ). mergedFrom x c rest) e)
 
-other-on : (k at c d : ℕ) (rest : List ℕ) → begins at c d ≡ true → runsFrom at c (replicate (suc k) d ++ rest) ≡ pack at d ∷ runsFrom (at + suc k) d rest
-unfolding runsFrom
+other-on : (k at c d : ℕ) (rest : List ℕ) → begins at c d ≡ true → mergedFrom at c (replicate (suc k) d ++ rest) ≡ pack at d ∷ mergedFrom (at + suc k) d rest
+unfolding mergedFrom
 other-on k at c d rest h =
     let e : at + 1 + k ≡ at + suc k = omega arith in
-    rw h (ap (λ (l : List ℕ). pack at d ∷ l) (same-on k (at + 1) d rest (omega arith) ∙ ap (λ (x : ℕ). runsFrom x d rest) e))
+    rw h (ap (λ (l : List ℕ). pack at d ∷ l) (same-on k (at + 1) d rest (omega arith) ∙ ap (λ (x : ℕ). mergedFrom x d rest) e))
 
 module _ (xs : List ℕ) (at end c d : ℕ) (up : at ≤ end) (vertices : drop at xs ≡ replicate (end - at) d ++ drop end xs) where
-  pub goes-on : begins at c d ≡ false → runsFrom at c (drop at xs) ≡ runsFrom end c (drop end xs)
+  pub goes-on : begins at c d ≡ false → mergedFrom at c (drop at xs) ≡ mergedFrom end c (drop end xs)
   goes-on b =
       let f = begins-same at c d b in
       let k : at + (end - at) ≡ end = omega arith in
-      ap (runsFrom at c) (vertices ∙ ap (λ (x : ℕ). replicate (end - at) x ++ drop end xs) (sym (f .1))) ∙ same-on (end - at) at c (drop end xs) (f .0) ∙ ap (λ (x : ℕ). runsFrom x c (drop end xs)) k
+      ap (mergedFrom at c) (vertices ∙ ap (λ (x : ℕ). replicate (end - at) x ++ drop end xs) (sym (f .1))) ∙ same-on (end - at) at c (drop end xs) (f .0) ∙ ap (λ (x : ℕ). mergedFrom x c (drop end xs)) k
 
-  pub gives : at < end → begins at c d ≡ true → runsFrom at c (drop at xs) ≡ pack at d ∷ runsFrom end d (drop end xs)
+  pub gives : at < end → begins at c d ≡ true → mergedFrom at c (drop at xs) ≡ pack at d ∷ mergedFrom end d (drop end xs)
   gives h b =
       let k : end - at ≡ suc (end - at - 1) = omega arith in
       let e : at + suc (end - at - 1) ≡ end = omega arith in
-      ap (runsFrom at c) (vertices ∙ ap (λ (x : ℕ). replicate x d ++ drop end xs) k) ∙ other-on (end - at - 1) at c d (drop end xs) b ∙ ap (λ (x : ℕ). pack at d ∷ runsFrom x d (drop end xs)) e
+      ap (mergedFrom at c) (vertices ∙ ap (λ (x : ℕ). replicate x d ++ drop end xs) k) ∙ other-on (end - at - 1) at c d (drop end xs) b ∙ ap (λ (x : ℕ). pack at d ∷ mergedFrom x d (drop end xs)) e
 
 -- ---- run by run, and by the vertices where a run starts
 
@@ -68,8 +68,8 @@ begins-later : (at c d : ℕ) → 0 < at → begins at c d ≡ not (eqb c d)
 unfolding begins
 begins-later at c d h = rw (ne-eqb at 0 (λ e. omega arith))
 
-runs-changes : (all pre cs : List ℕ) (c at : ℕ) → at ≡ length pre → 0 < at → all ≡ pre ++ cs → runsFrom at c cs ≡ runsAt all (changes c at cs)
-unfolding runsFrom changes runsAt
+runs-changes : (all pre cs : List ℕ) (c at : ℕ) → at ≡ length pre → 0 < at → all ≡ pre ++ cs → mergedFrom at c cs ≡ runsAt all (changes c at cs)
+unfolding mergedFrom changes runsAt
 runs-changes all pre [] c at l h e = refl
 runs-changes all pre (d ∷ cs) c at l h e =
     rw (begins-later at c d h) (go (eqb c d) (runs-changes all (pre ++ (d ∷ [])) cs d (at + 1) (longer ∙ sym (length-append pre (d ∷ []))) (omega arith) (e ∙ sym (append-assoc pre (d ∷ []) cs))))
@@ -80,13 +80,13 @@ runs-changes all pre (d ∷ cs) c at l h e =
     here : getD all at 0 ≡ d
     here = ap₂ (λ (x : List ℕ) (i : ℕ). getD x i 0) e l ∙ getD-append-seam pre d cs 0
 
-    go : (t : Bool) → runsFrom (at + 1) d cs ≡ runsAt all (changes d (at + 1) cs)
-        → begun (not t) (pack at d) (runsFrom (at + 1) d cs) ≡ runsAt all (unless t at (changes d (at + 1) cs))
+    go : (t : Bool) → mergedFrom (at + 1) d cs ≡ runsAt all (changes d (at + 1) cs)
+        → begun (not t) (pack at d) (mergedFrom (at + 1) d cs) ≡ runsAt all (unless t at (changes d (at + 1) cs))
     go true r = r
     go false r = ap₂ (λ (x : ℕ) (l : List ℕ). x ∷ l) (ap (pack at) (sym here)) r
 
-pub runs-merged : (cs : List ℕ) → runsFrom 0 0 cs ≡ merged cs
-unfolding runsFrom begins merged runsAt firsts
+pub runs-merged : (cs : List ℕ) → mergedFrom 0 0 cs ≡ merged cs
+unfolding mergedFrom begins merged runsAt firsts
 runs-merged [] = refl
 runs-merged (c ∷ cs) = ap (λ (l : List ℕ). pack 0 c ∷ l) (runs-changes (c ∷ cs) (c ∷ []) cs c 1 refl (omega arith) refl)
 
@@ -103,45 +103,45 @@ new-run n at d ys cs small g =
     let k : next n ys - offset (pack at d) ≡ suc (next n ys - (at + 1)) = omega (arith, g .0) in
     ap₂ (λ (x y : ℕ). replicate x y ++ colours n ys) k (coordinate-pack at d small) ∙ ap (λ (l : List ℕ). d ∷ l) (g .1)
 
-after-colours : (n at c : ℕ) (cs : List ℕ) → 0 < at → at + length cs ≡ n → n < 16777216 → Gives n at c (runsFrom at c cs) cs
-unfolding runsFrom colours Gives
+after-colours : (n at c : ℕ) (cs : List ℕ) → 0 < at → at + length cs ≡ n → n < 16777216 → Gives n at c (mergedFrom at c cs) cs
+unfolding mergedFrom colours Gives
 after-colours n at c [] h e small = let z : n - at ≡ 0 = omega arith in (omega arith, rw z)
 after-colours n at c (d ∷ cs) h e small = go (begins at c d) refl (after-colours n (at + 1) d cs (omega arith) (omega arith) small)
   where
-    go : (t : Bool) → begins at c d ≡ t → Gives n (at + 1) d (runsFrom (at + 1) d cs) cs → Gives n at c (begun t (pack at d) (runsFrom (at + 1) d cs)) (d ∷ cs)
+    go : (t : Bool) → begins at c d ≡ t → Gives n (at + 1) d (mergedFrom (at + 1) d cs) cs → Gives n at c (begun t (pack at d) (mergedFrom (at + 1) d cs)) (d ∷ cs)
     go true b f =
         let o : offset (pack at d) ≡ at = offset-pack at d (omega arith) in
         let z : offset (pack at d) - at ≡ 0 = omega arith in
-        (omega arith, ap (λ (k : ℕ). replicate k c ++ colours n (pack at d ∷ runsFrom (at + 1) d cs)) z ∙ new-run n at d (runsFrom (at + 1) d cs) cs (omega arith) f)
+        (omega arith, ap (λ (k : ℕ). replicate k c ++ colours n (pack at d ∷ mergedFrom (at + 1) d cs)) z ∙ new-run n at d (mergedFrom (at + 1) d cs) cs (omega arith) f)
     go false b f =
         let q : c ≡ d = begins-same at c d b .1 in
-        let k : next n (runsFrom (at + 1) d cs) - at ≡ suc (next n (runsFrom (at + 1) d cs) - (at + 1)) = omega (arith, f .0) in
-        (omega (arith, f .0), ap₂ (λ (x y : ℕ). replicate x y ++ colours n (runsFrom (at + 1) d cs)) k q ∙ ap (λ (l : List ℕ). d ∷ l) (f .1))
+        let k : next n (mergedFrom (at + 1) d cs) - at ≡ suc (next n (mergedFrom (at + 1) d cs) - (at + 1)) = omega (arith, f .0) in
+        (omega (arith, f .0), ap₂ (λ (x y : ℕ). replicate x y ++ colours n (mergedFrom (at + 1) d cs)) k q ∙ ap (λ (l : List ℕ). d ∷ l) (f .1))
 
-colours-from : (cs : List ℕ) → length cs < 16777216 → colours (length cs) (runsFrom 0 0 cs) ≡ cs
-unfolding runsFrom colours begins
+colours-from : (cs : List ℕ) → length cs < 16777216 → colours (length cs) (mergedFrom 0 0 cs) ≡ cs
+unfolding mergedFrom colours begins
 colours-from [] h = refl
-colours-from (c ∷ cs) h = new-run (length (c ∷ cs)) 0 c (runsFrom 1 c cs) cs (omega arith) (after-colours (length (c ∷ cs)) 1 c cs (omega arith) (omega arith) h)
+colours-from (c ∷ cs) h = new-run (length (c ∷ cs)) 0 c (mergedFrom 1 c cs) cs (omega arith) (after-colours (length (c ∷ cs)) 1 c cs (omega arith) (omega arith) h)
 
 pub colours-merged : (cs : List ℕ) → length cs < 16777216 → colours (length cs) (merged cs) ≡ cs
 colours-merged cs h = ap (colours (length cs)) (sym (runs-merged cs)) ∙ colours-from cs h
 
 -- ---- merged colours are sharp
 
-after-strict : (n at c : ℕ) (cs : List ℕ) → at + length cs ≡ n → n < 16777216 → (at ≤ next n (runsFrom at c cs)) × StrictUp n (runsFrom at c cs)
-unfolding runsFrom
+after-strict : (n at c : ℕ) (cs : List ℕ) → at + length cs ≡ n → n < 16777216 → (at ≤ next n (mergedFrom at c cs)) × StrictUp n (mergedFrom at c cs)
+unfolding mergedFrom
 after-strict n at c [] e small = (omega arith, λ i l. absurd (omega arith))
 after-strict n at c (d ∷ cs) e small = go (begins at c d) (after-strict n (at + 1) d cs (omega arith) small)
   where
-    go : (t : Bool) → (at + 1 ≤ next n (runsFrom (at + 1) d cs)) × StrictUp n (runsFrom (at + 1) d cs)
-        → (at ≤ next n (begun t (pack at d) (runsFrom (at + 1) d cs))) × StrictUp n (begun t (pack at d) (runsFrom (at + 1) d cs))
+    go : (t : Bool) → (at + 1 ≤ next n (mergedFrom (at + 1) d cs)) × StrictUp n (mergedFrom (at + 1) d cs)
+        → (at ≤ next n (begun t (pack at d) (mergedFrom (at + 1) d cs))) × StrictUp n (begun t (pack at d) (mergedFrom (at + 1) d cs))
     go true f =
         let o : offset (pack at d) ≡ at = offset-pack at d (omega arith) in
-        (omega arith, strict-cons n (pack at d) (runsFrom (at + 1) d cs) (omega (arith, f .0)) (f .1))
+        (omega arith, strict-cons n (pack at d) (mergedFrom (at + 1) d cs) (omega (arith, f .0)) (f .1))
     go false f = (omega (arith, f .0), f .1)
 
-from-sharp : (c : ℕ) (cs : List ℕ) → length (c ∷ cs) < 16777216 → Sharp (length (c ∷ cs)) (runsFrom 0 0 (c ∷ cs))
-unfolding runsFrom begins
+from-sharp : (c : ℕ) (cs : List ℕ) → length (c ∷ cs) < 16777216 → Sharp (length (c ∷ cs)) (mergedFrom 0 0 (c ∷ cs))
+unfolding mergedFrom begins
 from-sharp c cs h = record { some = omega arith; first = offset-pack 0 c (omega arith); up = after-strict (length (c ∷ cs)) 0 0 (c ∷ cs) (omega arith) h .1 }
 
 pub merged-sharp : (cs : List ℕ) → 0 < length cs → length cs < 16777216 → Sharp (length cs) (merged cs)
@@ -150,12 +150,12 @@ merged-sharp (c ∷ cs) h small = rw (← runs-merged (c ∷ cs)) (from-sharp c 
 
 -- ---- how many runs, and where they start
 
-from-long : (at c : ℕ) (cs : List ℕ) → length (runsFrom at c cs) ≤ length cs
-unfolding runsFrom
+from-long : (at c : ℕ) (cs : List ℕ) → length (mergedFrom at c cs) ≤ length cs
+unfolding mergedFrom
 from-long at c [] = omega arith
 from-long at c (d ∷ cs) = go (begins at c d) (from-long (at + 1) d cs)
   where
-    go : (t : Bool) → length (runsFrom (at + 1) d cs) ≤ length cs → length (begun t (pack at d) (runsFrom (at + 1) d cs)) ≤ suc (length cs)
+    go : (t : Bool) → length (mergedFrom (at + 1) d cs) ≤ length cs → length (begun t (pack at d) (mergedFrom (at + 1) d cs)) ≤ suc (length cs)
     go true h = omega arith
     go false h = omega arith
 

@@ -12,7 +12,8 @@ use lib.Dec.{ltb}
 use Rattle.base.proofs.Bools.{and-true, and-both, false-true}
 use Rattle.runs.specs.Words.{offset}
 use Rattle.runs.specs.Colours.{next, endAt}
-use Rattle.runs.specs.Orders.{rises, steady, climbs, sharp, Steady, Sharp, Taken, mostVertices}
+use Rattle.runs.specs.Orders.{rises, steady, climbs, sharp, mostVertices}
+use Rattle.runs.specs.Inside.Lists.{Steady, Sharp, Taken}
 
 -- each run begins no later than it ends
 abbrev pub Up : ℕ → List ℕ → Type 0
@@ -119,8 +120,8 @@ next-up n ws zero l u = omega arith
 next-up n [] (suc i) l u = omega arith
 next-up n (w ∷ ws) (suc i) l u = let a : offset w ≤ next n ws = u 0 (omega arith) in let b : next n ws ≤ next n (drop i ws) = next-up n ws i (omega arith) (tail-up n w ws u) in omega arith
 
-pub begins : (n : ℕ) (ws : List ℕ) (i : ℕ) → i < length ws → next n (drop i ws) ≡ offset (getD ws i 0)
-begins n ws i l = ap (next n) (drop-cons ws i 0 l)
+pub run-begins : (n : ℕ) (ws : List ℕ) (i : ℕ) → i < length ws → next n (drop i ws) ≡ offset (getD ws i 0)
+run-begins n ws i l = ap (next n) (drop-cons ws i 0 l)
 
 pub drop-up : (n : ℕ) (ws : List ℕ) (i : ℕ) → Up n ws → Up n (drop i ws)
 drop-up n ws zero u = u
@@ -143,7 +144,7 @@ strict-few n (w ∷ ws) u =
     omega arith
 
 pub starts-zero : (n : ℕ) (ws : List ℕ) → Steady n ws → 0 < length ws → next n ws ≡ 0
-starts-zero n ws s some = begins n ws 0 some ∙ s .first
+starts-zero n ws s some = run-begins n ws 0 some ∙ s .first
 
 -- ---- the tests, run by run
 

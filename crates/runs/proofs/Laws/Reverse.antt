@@ -8,11 +8,11 @@ use lib.ListN.{length, drop, getD, replicate, length-append, List·getD-append, 
 use lib.Seq.{getD-at, ext-getD}
 use Rattle.runs.specs.Words.{offset, coordinate, pack}
 use Rattle.runs.specs.Colours.{next, endAt, colours, firstCoord, lastCoord}
-use Rattle.runs.specs.Orders.{Steady, Sharp}
+use Rattle.runs.specs.Inside.Lists.{Steady, Sharp}
 use Rattle.runs.specs.Reverse.{reverseRuns, oriented}
 use Rattle.runs.proofs.Laws.Lists.{reverse-replicate}
 use Rattle.runs.proofs.Laws.Words.{offset-pack, coordinate-pack, pack-of}
-use Rattle.runs.proofs.Laws.Orders.{Up, StrictUp, tail-up, next-le, begins, end-le, sharp-steady}
+use Rattle.runs.proofs.Laws.Orders.{Up, StrictUp, tail-up, next-le, run-begins, end-le, sharp-steady}
 use Rattle.runs.proofs.Laws.Colours.{colours-append}
 
 pub length-reversed : (n : ℕ) (ws : List ℕ) → length (reverseRuns n ws) ≡ length ws
@@ -36,9 +36,9 @@ module _ (n : ℕ) (ws : List ℕ) (small : n < 16777216) (s : Steady n ws) wher
       let z : n ≡ n - offset (getD ws 0 0) = omega (arith, s .first) in
       ap (next n) d ∙ z
   reversed-end i (suc k) e =
-      let b : next n (drop (suc i) (reverseRuns n ws)) ≡ offset (getD (reverseRuns n ws) (suc i) 0) = begins n (reverseRuns n ws) (suc i) (omega (arith, length-reversed n ws)) in
+      let b : next n (drop (suc i) (reverseRuns n ws)) ≡ offset (getD (reverseRuns n ws) (suc i) 0) = run-begins n (reverseRuns n ws) (suc i) (omega (arith, length-reversed n ws)) in
       let r : getD (reverseRuns n ws) (suc i) 0 ≡ pack (n - endAt n ws k) (coordinate (getD ws k 0)) = reversed-at n ws (suc i) k (omega arith) in
-      let o : endAt n ws k ≡ offset (getD ws (suc k) 0) = begins n ws (suc k) (omega arith) in
+      let o : endAt n ws k ≡ offset (getD ws (suc k) 0) = run-begins n ws (suc k) (omega arith) in
       b ∙ ap offset r ∙ offset-pack (n - endAt n ws k) (coordinate (getD ws k 0)) (omega arith) ∙ ap (λ (x : ℕ). n - x) o
 
   pub reversed-steady : Steady n (reverseRuns n ws)
@@ -135,8 +135,8 @@ module _ (r : Bool) (n : ℕ) (ws : List ℕ) (i : ℕ) (inside : i < length ws)
   oriented-end-no e = ap (λ (l : List ℕ). endAt n l i) (oriented-no r n ws e)
 
 -- a sharp list reversed is sharp
-pub reversed-sharp : (n : ℕ) (ws : List ℕ) → n < 16777216 → Sharp n ws → Sharp n (reverseRuns n ws)
-reversed-sharp n ws small s = record { some = subst (λ (x : ℕ). 0 < x) (sym (length-reversed n ws)) (s .some); first = reversed-steady n ws small steady .first; up = up }
+pub sharp-reversed : (n : ℕ) (ws : List ℕ) → n < 16777216 → Sharp n ws → Sharp n (reverseRuns n ws)
+sharp-reversed n ws small s = record { some = subst (λ (x : ℕ). 0 < x) (sym (length-reversed n ws)) (s .some); first = reversed-steady n ws small steady .first; up = up }
   where
     steady : Steady n ws
     steady = sharp-steady n ws s
@@ -152,7 +152,7 @@ reversed-sharp n ws small s = record { some = subst (λ (x : ℕ). 0 < x) (sym (
         omega arith
 
 pub oriented-sharp : (r : Bool) (n : ℕ) (ws : List ℕ) → n < 16777216 → Sharp n ws → Sharp n (oriented r n ws)
-oriented-sharp true n ws small s = reversed-sharp n ws small s
+oriented-sharp true n ws small s = sharp-reversed n ws small s
 oriented-sharp false n ws small s = s
 
 -- ---- the coordinate of the first run

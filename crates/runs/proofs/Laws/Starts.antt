@@ -6,7 +6,8 @@ use native.Mathlib.Omega.{arith}
 use lib.ListN.{length, drop}
 use Rattle.runs.specs.Words.{offset, coordinate, pack}
 use Rattle.runs.specs.Colours.{next, starts, firstCoord, lastCoord}
-use Rattle.runs.specs.Orders.{mostVertices, Steady}
+use Rattle.runs.specs.Orders.{mostVertices}
+use Rattle.runs.specs.Inside.Lists.{Steady}
 use Rattle.runs.specs.Reverse.{reverseRuns}
 use Rattle.runs.specs.Append.{shifted, skip, appendix}
 use Rattle.runs.proofs.Laws.Words.{offset-pack}

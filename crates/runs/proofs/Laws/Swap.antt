@@ -8,11 +8,11 @@ use lib.ListN.{length, getD, set, length-set, drop-of-length-le}
 use lib.Seq.{getD-set-same, getD-set-other, ext-getD}
 use Rattle.runs.specs.Words.{offset, coordinate, pack}
 use Rattle.runs.specs.Colours.{next, endAt}
-use Rattle.runs.specs.Orders.{Taken}
+use Rattle.runs.specs.Inside.Lists.{Taken}
 use Rattle.runs.specs.Reverse.{reverseRuns}
-use Rattle.runs.specs.Swap.{Swapped, Backed, Within, backed, putFour}
+use Rattle.runs.specs.Inside.Swap.{Swapped, Backed, FourFit, backed, putFour}
 use Rattle.runs.specs.declared.swap.Four.{Four}
-use Rattle.runs.proofs.Laws.Orders.{begins, end-le, offset-le}
+use Rattle.runs.proofs.Laws.Orders.{run-begins, end-le, offset-le}
 use Rattle.runs.proofs.Laws.Reverse.{length-reversed, reversed-at}
 
 swap-none : (n : ℕ) (ws : List ℕ) → Swapped n ws ws n 0
@@ -58,7 +58,7 @@ module _ (n : ℕ) (ws xs : List ℕ) (tail i : ℕ) (s : Swapped n ws xs tail i
       back =
           let a : getD xs (i + 1) 0 ≡ getD ws (i + 1) 0 = s .mid (i + 1) (omega arith) (omega arith) in
           let e : i + 1 ≡ suc i = omega arith in
-          let o : offset (getD xs (i + 1) 0) ≡ endAt n ws i = ap offset (a ∙ ap (λ (z : ℕ). getD ws z 0) e) ∙ sym (begins n ws (suc i) (omega arith)) in
+          let o : offset (getD xs (i + 1) 0) ≡ endAt n ws i = ap offset (a ∙ ap (λ (z : ℕ). getD ws z 0) e) ∙ sym (run-begins n ws (suc i) (omega arith)) in
           let m : getD xs i 0 ≡ getD ws i 0 = s .mid i (omega arith) (omega arith) in
           y-is ∙ ap₂ (λ (t w : ℕ). pack (n - t) (coordinate w)) o m ∙ sym (reversed-at n ws (length ws - 1 - i) i (omega arith))
 
@@ -93,7 +93,7 @@ module _ (n : ℕ) (ws xs : List ℕ) (tail i : ℕ) (s : Swapped n ws xs tail i
           tails : t ≡ endAt n ws (length ws - 1 - (i + 1))
           tails =
               let f : length ws - 1 - i ≡ suc (length ws - 1 - (i + 1)) = omega arith in
-              e ∙ ap offset (s .mid (length ws - 1 - i) (omega arith) (omega arith)) ∙ ap (λ (z : ℕ). offset (getD ws z 0)) f ∙ sym (begins n ws (suc (length ws - 1 - (i + 1))) (omega arith))
+              e ∙ ap offset (s .mid (length ws - 1 - i) (omega arith) (omega arith)) ∙ ap (λ (z : ℕ). offset (getD ws z 0)) f ∙ sym (run-begins n ws (suc (length ws - 1 - (i + 1))) (omega arith))
 
 -- the same, where m is the number of runs
 pub swap-step : (n : ℕ) (ws xs : List ℕ) (tail i m : ℕ) → length ws ≡ m → Swapped n ws xs tail i → (x y t : ℕ) → i + i + 1 < m
@@ -169,7 +169,7 @@ module _ (n : ℕ) (ws xs : List ℕ) (behind i : ℕ) (t : Taken n ws) (s : Swa
   within : (j : ℕ) → i ≤ j → j < length ws - i → offset (getD xs j 0) ≤ n
   within j h g = subst (λ (w : ℕ). offset w ≤ n) (sym (s .mid j h g)) (offset-le n ws j (omega arith) (t .list .up))
 
-  pub low-within : Within n xs i (getD xs (i + 4) 0)
+  pub low-within : FourFit n xs i (getD xs (i + 4) 0)
   low-within =
       record {
         inside = omega (arith, s .long);
@@ -180,7 +180,7 @@ module _ (n : ℕ) (ws xs : List ℕ) (behind i : ℕ) (t : Taken n ws) (s : Swa
         small = t .small;
       }
 
-  pub high-within : Within n xs (length ws - 4 - i) behind
+  pub high-within : FourFit n xs (length ws - 4 - i) behind
   high-within =
       record {
         inside = omega (arith, s .long);
@@ -196,7 +196,7 @@ module _ (n : ℕ) (ws xs : List ℕ) (behind i : ℕ) (t : Taken n ws) (s : Swa
   by-next j p q e h f g =
       let a : getD xs p 0 ≡ getD ws p 0 = s .mid p h (omega arith) in
       let r : q ≡ suc p = omega arith in
-      let b : offset (getD xs q 0) ≡ endAt n ws p = ap offset (s .mid q (omega arith) g ∙ ap (λ (x : ℕ). getD ws x 0) r) ∙ sym (begins n ws (suc p) (omega arith)) in
+      let b : offset (getD xs q 0) ≡ endAt n ws p = ap offset (s .mid q (omega arith) g ∙ ap (λ (x : ℕ). getD ws x 0) r) ∙ sym (run-begins n ws (suc p) (omega arith)) in
       ap₂ (λ (o w : ℕ). pack (n - o) (coordinate w)) b a ∙ sym (reversed-at n ws j p e)
 
   by-tail : (p : ℕ) → p ≡ length ws - 1 - i → backed n xs p behind ≡ getD (reverseRuns n ws) i 0
@@ -251,4 +251,4 @@ module _ (n : ℕ) (ws xs : List ℕ) (behind i : ℕ) (t : Taken n ws) (s : Swa
         tails : offset (getD xs (length ws - 4 - i) 0) ≡ endAt n ws (length ws - 1 - (i + 4))
         tails =
             let e : length ws - 4 - i ≡ suc (length ws - 1 - (i + 4)) = omega arith in
-            ap offset (s .mid (length ws - 4 - i) (omega arith) (omega arith) ∙ ap (λ (x : ℕ). getD ws x 0) e) ∙ sym (begins n ws (suc (length ws - 1 - (i + 4))) (omega arith))
+            ap offset (s .mid (length ws - 4 - i) (omega arith) (omega arith) ∙ ap (λ (x : ℕ). getD ws x 0) e) ∙ sym (run-begins n ws (suc (length ws - 1 - (i + 4))) (omega arith))

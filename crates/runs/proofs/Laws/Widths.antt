@@ -11,13 +11,14 @@ use lib.Dec.{eqb}
 use Rattle.base.proofs.All.{All, all-at, all-append, all-replicate}
 use Rattle.runs.specs.Words.{offset, coordinate, pack, AreWords}
 use Rattle.runs.specs.Colours.{next, endAt, colours, lastCoord}
-use Rattle.runs.specs.Orders.{mostVertices, sharp, Steady, Sharp, Taken}
+use Rattle.runs.specs.Orders.{mostVertices, sharp}
+use Rattle.runs.specs.Inside.Lists.{Steady, Sharp, Taken}
 use Rattle.runs.specs.Reverse.{reverseRuns, oriented}
 use Rattle.runs.specs.Append.{shifted, skip, appendix, appendRuns}
-use Rattle.runs.specs.Rotate.{turn, unless, changes, firsts, runsAt, merged, rotateRuns}
+use Rattle.runs.specs.Rotate.{turnLeft, unless, changes, firsts, runsAt, merged, rotateRuns}
 use Rattle.runs.proofs.Laws.Lists.{getD-behind, all-turn}
 use Rattle.runs.proofs.Laws.Words.{offset-pack, coordinate-pack, pack-of, coordinate-small, pack-small}
-use Rattle.runs.proofs.Laws.Orders.{end-le, begins, sharp-yes, sharp-steady}
+use Rattle.runs.proofs.Laws.Orders.{end-le, run-begins, sharp-yes, sharp-steady}
 use Rattle.runs.proofs.Laws.Colours.{length-colours, steady-long, steady-at}
 use Rattle.runs.proofs.Laws.Reverse.{reversed-at, length-reversed, oriented-sharp, oriented-steady}
 use Rattle.runs.proofs.Laws.Append.{shifted-at, length-shifted}
@@ -124,7 +125,7 @@ coloured-words n ws e a = words-of ws word
     word : (i : ℕ) → i < length ws → getD ws i 0 < 2 ^ 64
     word i l =
         let v : ℕ = offset (getD ws i 0) in
-        let b : next n (drop i ws) ≡ v = begins n ws i l in
+        let b : next n (drop i ws) ≡ v = run-begins n ws i l in
         let c : getD (colours n ws) v 0 ≡ coordinate (getD ws i 0) = steady-at n ws t (s .some) i v l (omega arith) (s .up i l) in
         let h : v < length (colours n ws) = omega (arith, s .up i l, end-le n ws i (t .up), steady-long n ws t (s .some)) in
         packed-word v (coordinate (getD ws i 0)) (getD ws i 0) (record { is = sym (pack-of (getD ws i 0)); small = omega arith; narrow = subst Narrow c (all-at Narrow (colours n ws) v 0 h a) })
@@ -171,13 +172,13 @@ merged-packed cs i h a l =
 
 -- run i of the turned list begins at the i-th of the turned colours' starts and has the colour there
 pub rotated-packed : (n pivot : ℕ) (r : Bool) (ws : List ℕ) (i : ℕ) → Taken n ws → AreWords ws → i < length (rotateRuns n pivot r ws)
-    → Packed (getD (firsts (turn (pivot % n) (colours n (oriented r n ws)))) i 0) (getD (turn (pivot % n) (colours n (oriented r n ws))) (getD (firsts (turn (pivot % n) (colours n (oriented r n ws)))) i 0) 0) (getD (rotateRuns n pivot r ws) i 0)
+    → Packed (getD (firsts (turnLeft (pivot % n) (colours n (oriented r n ws)))) i 0) (getD (turnLeft (pivot % n) (colours n (oriented r n ws))) (getD (firsts (turnLeft (pivot % n) (colours n (oriented r n ws)))) i 0) 0) (getD (rotateRuns n pivot r ws) i 0)
 unfolding rotateRuns
 rotated-packed n pivot r ws i t a l =
     let cs : List ℕ = colours n (oriented r n ws) in
     let q : ℕ = pivot % n in
-    let k : length (turn q cs) ≤ mostVertices = omega (arith, turn-long q cs, length-colours n (oriented r n ws) (oriented-steady r n ws (t .small) (t .list) .up), t .small) in
-    merged-packed (turn q cs) i k (all-turn Narrow q cs (narrow-colours n (oriented r n ws) (oriented-words r n ws (omega (arith, t .small)) a))) l
+    let k : length (turnLeft q cs) ≤ mostVertices = omega (arith, turn-long q cs, length-colours n (oriented r n ws) (oriented-steady r n ws (t .small) (t .list) .up), t .small) in
+    merged-packed (turnLeft q cs) i k (all-turn Narrow q cs (narrow-colours n (oriented r n ws) (oriented-words r n ws (omega (arith, t .small)) a))) l
 
 pub rotated-words : (n pivot : ℕ) (r : Bool) (ws : List ℕ) → Taken n ws → AreWords ws → AreWords (rotateRuns n pivot r ws)
 rotated-words n pivot r ws t a = words-of (rotateRuns n pivot r ws) (λ i l. packed-word _ _ _ (rotated-packed n pivot r ws i t a l))

@@ -13,11 +13,9 @@ use Rattle.base.specs.Tests.{_when_else_}
 use Rattle.base.specs.Parts.{over}
 use Rattle.base.proofs.Tests.{when-yes, when-no}
 use Rattle.io.specs.Digits.{digits, Fewest, glyph}
-use Rattle.shell.specs.declared.numbers.Number.{Number}
 use Rattle.shell.specs.declared.numbers.Number.the-variants.{Value, Large}
-use Rattle.shell.specs.declared.hexes.Hexed.{Hexed}
 use Rattle.shell.specs.declared.hexes.Hexed.the-variants.{Done, Bad, Many}
-use Rattle.shell.specs.Numbers.{numberFrom, numberOf}
+use Rattle.shell.specs.Numbers.{numberFrom, decimalOf}
 use Rattle.shell.specs.Hexes.{digitOf, unhexAt, hexOf}
 use Rattle.shell.specs.Texts.{putAt, Printed}
 use Rattle.shell.proofs.Laws.Numbers.{number-start, from-none, from-cons}
@@ -51,7 +49,7 @@ all-digits most (suc k) n rest l h =
     ∙ ap (λ (m : ℕ). numberFrom most m rest) e
 
 -- The law: the digits of a number say the number, where it is at most `most`.
-pub number-back : (most k n : ℕ) → n ≤ most → Fewest 10 1 n k → numberOf most (digits 10 k n) ≡ Value n
+pub number-back : (most k n : ℕ) → n ≤ most → Fewest 10 1 n k → decimalOf most (digits 10 k n) ≡ Value n
 number-back most zero n l f = absurd (omega (arith, f .0))
 number-back most (suc k) n l f =
     number-start most (digits 10 (suc k) n) (λ e. omega (arith, e, length-append (digits 10 k (n / 10)) (glyph (n % 10) ∷ [])))
@@ -86,9 +84,9 @@ put-back xs at out h end after e =
     ∙ take-append-seam xs (drop (length xs) (drop at out))
 
 -- The same of memory: where the print found its space, reading what it wrote gives the number.
-pub printed-back : (most n at : ℕ) (before : List ℕ) (end : ℕ) (after : List ℕ) (p : Printed n at before end after) → n ≤ most → at + length (digits 10 (p .count) n) ≤ length before → numberOf most (take (end - at) (drop at after)) ≡ Value n
+pub printed-back : (most n at : ℕ) (before : List ℕ) (end : ℕ) (after : List ℕ) (p : Printed n at before end after) → n ≤ most → at + length (digits 10 (p .count) n) ≤ length before → decimalOf most (take (end - at) (drop at after)) ≡ Value n
 printed-back most n at before end after p l h =
-    ap (numberOf most) (put-back (digits 10 (p .count) n) at before h end after (p .text)) ∙ number-back most (p .count) n l (p .fewest)
+    ap (decimalOf most) (put-back (digits 10 (p .count) n) at before h end after (p .text)) ∙ number-back most (p .count) n l (p .fewest)
 
 -- Hexadecimal: one digit.
 digit-back : (d : ℕ) → d < 16 → digitOf (glyph d) ≡ d

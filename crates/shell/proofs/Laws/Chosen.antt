@@ -1,5 +1,5 @@
 -- What a call answered decides a test of the definition.
-use mathlib.Core.Path.{_≡_, refl, sym, _∙_}
+use mathlib.Core.Path.{_≡_, sym, _∙_}
 use mathlib.Core.Bool.{Bool, true, false}
 use Rattle.base.specs.Tests.{_when_else_}
 use Rattle.base.proofs.Tests.{when-yes, when-no}

@@ -12,7 +12,6 @@ use borrow.Author.Tests.{eq-eqb, ne-eqb, lt-ltb, le-ltb}
 use Rattle.base.specs.Tests.{_when_else_}
 use Rattle.base.proofs.Tests.{when-yes, when-no}
 use Rattle.shell.specs.declared.classes.Class.the-variants.{Blank, Word}
-use Rattle.shell.specs.declared.fields.Field.{Field}
 use Rattle.shell.specs.declared.fields.Field.the-variants.{At, Nothing}
 use Rattle.shell.specs.Classes.{span}
 use Rattle.shell.specs.Fields.{wordAt, fieldAt, same}

@@ -21,9 +21,9 @@ use Rattle.shell.specs.declared.numbers.Number.{Number}
 use Rattle.shell.specs.declared.numbers.Number.the-variants as number
 use Rattle.shell.specs.declared.reasons.Fault.the-variants as fault
 use Rattle.shell.specs.Fields.{fieldAt}
-use Rattle.shell.specs.Numbers.{numberOf}
+use Rattle.shell.specs.Numbers.{decimalOf}
 use Rattle.shell.specs.Pairs.{pairOf}
-use Rattle.shell.specs.Lists.{itemOf, wordOf, idAt, runAt, turn, listFrom}
+use Rattle.shell.specs.Lists.{itemOf, idAt, runAt, itemInto, listFrom}
 
 pub front-all : (xs : List ℕ) (count : ℕ) → length xs < count → xs ≡ take count xs
 front-all xs count h = let l : length xs ≤ count = omega arith in sym (take-all count xs l)
@@ -49,7 +49,7 @@ module _ (line : List ℕ) (at : ℕ) (f : Field) (p : f ≡ fieldAt line at) wh
   run-none e = rw (← p, e)
 
   module _ (s k : ℕ) (e : f ≡ field.At s k) (w : List ℕ) (g : w ≡ take (k - s) (drop s line)) (n : Number) (r : Item) where
-    pub id-word : n ≡ numberOf 4294967295 w → r ≡ itemOf n k fault.Digits → r ≡ idAt line at
+    pub id-word : n ≡ decimalOf 4294967295 w → r ≡ itemOf n k fault.Digits → r ≡ idAt line at
     unfolding idAt
     id-word h i = rw (← p, e, ← g, ← h) i
 
@@ -63,27 +63,27 @@ list-zero : (cut : ℕ → ℕ) (read : List ℕ → ℕ → Item) (line : List 
 unfolding listFrom
 list-zero cut read line at k out = refl
 
-list-suc : (cut : ℕ → ℕ) (read : List ℕ → ℕ → Item) (left : ℕ) (line : List ℕ) (at k : ℕ) (out : List ℕ) → listFrom cut read (suc left) line at k out ≡ turn cut (read line at) k out (listFrom cut read left line)
+list-suc : (cut : ℕ → ℕ) (read : List ℕ → ℕ → Item) (left : ℕ) (line : List ℕ) (at k : ℕ) (out : List ℕ) → listFrom cut read (suc left) line at k out ≡ itemInto cut (read line at) k out (listFrom cut read left line)
 unfolding listFrom
 list-suc cut read left line at k out = refl
 
 module _ (cut : ℕ → ℕ) (read : List ℕ → ℕ → Item) (whole : Listed × List ℕ) (line : List ℕ) (left at k : ℕ) (out : List ℕ) (inv : whole ≡ listFrom cut read left line at k out) where
   module _ (h : 0 < left) (r : Item) (e : r ≡ read line at) where
-    opens : whole ≡ turn cut r k out (listFrom cut read (left - 1) line)
+    opens : whole ≡ itemInto cut r k out (listFrom cut read (left - 1) line)
     opens =
         let s : left ≡ suc (left - 1) = omega arith in
         inv ∙ ap (λ (n : ℕ). listFrom cut read n line at k out) s ∙ list-suc cut read (left - 1) line at k out
-        ∙ ap (λ (i : Item). turn cut i k out (listFrom cut read (left - 1) line)) (sym e)
+        ∙ ap (λ (i : Item). itemInto cut i k out (listFrom cut read (left - 1) line)) (sym e)
 
     pub list-none : r ≡ Nothing → _≡_ {A = Listed × List ℕ} (listed.Done k, out) whole
-    list-none g = sym (opens ∙ ap (λ (i : Item). turn cut i k out (listFrom cut read (left - 1) line)) g)
+    list-none g = sym (opens ∙ ap (λ (i : Item). itemInto cut i k out (listFrom cut read (left - 1) line)) g)
 
     pub list-wrong : (f : Fault) → r ≡ Wrong f → _≡_ {A = Listed × List ℕ} (listed.Wrong f, out) whole
-    list-wrong f g = sym (opens ∙ ap (λ (i : Item). turn cut i k out (listFrom cut read (left - 1) line)) g)
+    list-wrong f g = sym (opens ∙ ap (λ (i : Item). itemInto cut i k out (listFrom cut read (left - 1) line)) g)
 
     module _ (v next : ℕ) (g : r ≡ Value v next) where
       valued : whole ≡ ((listed.Wrong Many, out) when leb (length out) k else listFrom cut read (left - 1) line next (k + 1) (set out k (cut v)))
-      valued = opens ∙ ap (λ (i : Item). turn cut i k out (listFrom cut read (left - 1) line)) g
+      valued = opens ∙ ap (λ (i : Item). itemInto cut i k out (listFrom cut read (left - 1) line)) g
 
       pub list-many : length out ≤ k → _≡_ {A = Listed × List ℕ} (listed.Wrong Many, out) whole
       list-many f = sym (valued ∙ when-yes _ _ _ (le-leb _ _ f))

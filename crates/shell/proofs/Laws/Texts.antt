@@ -1,8 +1,7 @@
 -- Text behind text: one turn of the loop over the bytes.
-use Prim.Native.Nat.{ℕ, suc, _+_, _/_, _%_, _≤_, _<_}
+use Prim.Native.Nat.{ℕ, _+_, _/_, _%_, _≤_, _<_}
 use mathlib.Core.Path.{_≡_, refl, sym, ap, ap₂, _∙_}
 use mathlib.Core.List.{List, [], _∷_}
-use native.Mathlib.Omega.{arith}
 use native.Mathlib.Numerals.{add-one}
 use lib.ListN.{length, take, drop, getD, set, drop-of-length-le}
 use lib.Seq.{drop-cons}

@@ -1,5 +1,4 @@
 -- `capi::rf_read_record` meets its contract, by what the operation promises.
-use mathlib.Core.Path.{_≡_}
 use denote.Ref.{now}
 use Rattle.base.specs.Answers.{ofGiven}
 use Rattle.capi.specs.Exports.{two}

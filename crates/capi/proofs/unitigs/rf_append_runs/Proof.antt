@@ -1,5 +1,4 @@
 -- `capi::rf_append_runs` meets its contract, by what the operation promises.
-use mathlib.Core.Path.{_≡_}
 use denote.Ref.{now}
 use Rattle.runs.specs.Append.{ofAppended}
 use Rattle.capi.specs.Exports.{two}

@@ -1,12 +1,12 @@
 -- `codec::bitmap::map_chunk` meets its contract. The loop's invariant: the ids passed are the word's bits.
-use Prim.Native.Nat.{ℕ, _+_, _-_, _*_, _%_, _^_, _≤_, _<_}
-use mathlib.Core.Path.{_≡_, sym, ap, _∙_, subst}
+use Prim.Native.Nat.{_+_, _-_, _*_, _%_, _^_, _≤_}
+use mathlib.Core.Path.{ap}
 use native.Mathlib.Nat.{lt-of-lt-of-le}
 use native.Mathlib.Omega.{arith}
 use lib.ListN.{length, getD}
 use lib.Pow.{pow-mono}
 use denote.Ref.{now}
-use Rattle.codec.proofs.Laws.Bits.{shifted}
+use Rattle.codec.proofs.Laws.Bits.{shift-fits}
 use Rattle.codec.proofs.Laws.Bitmaps.{Chunked, chunk-start, chunk-above, chunk-next, chunk-end}
 use Rattle.codec.proofs.bitmap.map_chunk.Statement.{statement}
 use Rattle.codec.proofs.bitmap.map_chunk.Tie as tie
@@ -51,7 +51,7 @@ next c =
     let l = c .before .before .before in
     let start = l .before in
     let a = start .args in
-    rw (shifted (getD (now (a .ids)) (l .loop .k) 0 - a .base) 1 1 (omega arith) (omega (arith, above c)))
+    rw (shift-fits (getD (now (a .ids)) (l .loop .k) 0 - a .base) 1 1 (omega arith) (omega (arith, above c)))
     (chunk-next (a .n) (now (a .ids)) (a .i) (a .base) (a .width) (l .loop .word) (l .loop .k) (l .loop .inv) (c .before .before .loop-test .taken) (c .if1 .left))
 
 sub-word : tie.Need-sub-word Inv-loop μ-loop

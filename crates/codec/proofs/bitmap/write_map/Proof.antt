@@ -1,13 +1,13 @@
 -- `codec::bitmap::write_map` meets its contract. The loop's invariant: the bits below `base` are written.
-use Prim.Native.Nat.{ℕ, _+_, _-_, _≤_, _<_}
-use mathlib.Core.Path.{_≡_, sym, subst}
+use Prim.Native.Nat.{_+_, _-_}
+use mathlib.Core.Path.{sym, subst}
 use mathlib.Core.Bool.{Bool}
 use mathlib.Core.List.{List, [], _++_}
 use native.Mathlib.Omega.{arith}
 use lib.ListN.{length}
 use denote.Ref.{now}
 use Rattle.codec.specs.Bits.{lowBits}
-use Rattle.codec.specs.Writers.{Wrote}
+use Rattle.codec.specs.Inside.Writers.{Wrote}
 use Rattle.codec.proofs.Laws.Bitmaps.{Mapping, mapping-start, mapping-next, mapping-end, mapping-count}
 use Rattle.codec.proofs.Laws.Writers.{wrote-none, wrote-then, ready-after}
 use Rattle.codec.proofs.bitmap.write_map.Statement.{statement}

@@ -1,6 +1,6 @@
 -- `codec::bits_at` meets its contract: the bits are those of a window.
-use Prim.Native.Nat.{ℕ, _+_, _*_, _%_, _^_, _≤_, _<_}
-use mathlib.Core.Path.{_≡_, refl, sym, ap, _∙_}
+use Prim.Native.Nat.{_≤_}
+use mathlib.Core.Path.{sym}
 use native.Mathlib.Nat.{mod-lt}
 use native.Mathlib.Omega.{arith}
 use lib.ListN.{length, drop, length-drop}

@@ -1,13 +1,12 @@
 -- `codec::finish` meets its contract.
-use Prim.Native.Nat.{ℕ, _+_, _-_, _*_, _/_, _%_, _^_, _≤_, _<_}
+use Prim.Native.Nat.{ℕ, _+_, _-_, _*_, _%_, _^_, _≤_, _<_}
 use mathlib.Core.Path.{_≡_, refl, sym, ap, ap₂, _∙_, subst}
 use mathlib.Core.List.{List, _++_}
 use native.Mathlib.Omega.{arith}
 use borrow.Author.Needs.{needs}
-use lib.ListN.{length, take, drop, set, getD, length-set, take-append-drop}
+use lib.ListN.{length, take, drop, set, length-set, take-append-drop}
 use lib.Seq.{drop-set-lt, drop-drop, length-take-le}
 use lib.Pow.{shr-lt}
-use denote.Ref.{now}
 use Rattle.codec.specs.Bits.{bitsOf, lowBits, packBits, AreBytes}
 use Rattle.codec.proofs.Laws.Bits.{flush, packed-whole, packed-part, bytes-set}
 use Rattle.codec.proofs.bits.finish.Statement.{statement}

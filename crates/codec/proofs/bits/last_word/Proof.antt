@@ -2,7 +2,7 @@
 use Prim.Native.Nat.{ℕ}
 use mathlib.Core.Path.{subst}
 use denote.Ref.{now}
-use Rattle.codec.specs.Windows.{Window}
+use Rattle.codec.specs.Inside.Windows.{Window}
 use borrow.Author.Needs.{needs}
 use Rattle.codec.proofs.bits.last_word.Statement.{statement}
 use Rattle.codec.proofs.bits.last_word.Tie as tie

@@ -1,10 +1,10 @@
 -- `codec::low_value` meets its contract. The loop's invariant: the value is that of the i bits read.
-use Prim.Native.Nat.{ℕ, _+_, _-_, _*_, _%_, _^_, _≤_, _<_}
-use mathlib.Core.Path.{_≡_, refl, sym, ap, _∙_, subst}
+use Prim.Native.Nat.{ℕ, _+_, _-_, _*_, _%_, _^_, _≤_}
+use mathlib.Core.Path.{_≡_, refl, ap, _∙_}
 use native.Mathlib.Omega.{arith}
 use lib.ListN.{length, getD, take, drop}
-use lib.Pow.{pow-lt, pow-mono}
-use mathlib.Core.Bool.{Bool, true, false}
+use lib.Pow.{pow-mono}
+use mathlib.Core.Bool.{false}
 use denote.Ref.{now}
 use Rattle.codec.specs.Bits.{bitsOf, digit, valueOf}
 use Rattle.codec.proofs.Laws.Low.{length-bits, value-more, value-take-lt, shl-digit, digit-lt}

@@ -9,10 +9,10 @@ use lib.Seq.{drop-set-lt}
 use lib.Pow.{pow-mono, shr-lt}
 use denote.Ref.{now}
 use Rattle.codec.specs.Bits.{bitsOf, lowBits}
-use Rattle.codec.specs.Writers.{streamOf, Ready, Wrote}
+use Rattle.codec.specs.Inside.Writers.{Ready, Wrote}
 use Rattle.codec.specs.declared.bits.BitWriter.{BitWriter}
 use Rattle.codec.proofs.Laws.Low.{length-low}
-use Rattle.codec.proofs.Laws.Bits.{flush4, joined-lt, shifted, put-bits}
+use Rattle.codec.proofs.Laws.Bits.{flush4, joined-lt, shift-fits, put-bits}
 use borrow.Author.Needs.{needs}
 use Rattle.codec.proofs.bits.push.Statement.{statement}
 use Rattle.codec.proofs.bits.push.Tie as tie
@@ -25,7 +25,7 @@ sum w v = w .acc + v * 2 ^ w .pending % 2 ^ 64
 
 module _ (out : List ℕ) (w : BitWriter) (v n : ℕ) (ready : Ready out w n) (given : (v < 2 ^ n) × (n ≤ 32)) where
   sum-eq : sum w v ≡ w .acc + v * 2 ^ w .pending
-  sum-eq = ap (λ (x : ℕ). w .acc + x) (shifted (w .pending) n v (given .0) (omega arith))
+  sum-eq = ap (λ (x : ℕ). w .acc + x) (shift-fits (w .pending) n v (given .0) (omega arith))
 
   sum-lt : sum w v < 2 ^ (w .pending + n)
   sum-lt = rw sum-eq (joined-lt (w .pending) n (w .acc) v (ready .small) (given .0))

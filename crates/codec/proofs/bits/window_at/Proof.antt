@@ -1,10 +1,8 @@
 -- `codec::window_at` meets its contract.
-use Prim.Native.Nat.{ℕ, _+_, _-_, _*_, _^_, _≤_, _<_}
-use mathlib.Core.Path.{_≡_, refl, sym, ap, _∙_}
-use mathlib.Core.Bool.{Bool, false}
-use mathlib.Core.List.{List, [], _++_}
+use Prim.Native.Nat.{_-_}
+use mathlib.Core.Path.{ap}
 use native.Mathlib.Omega.{arith}
-use lib.ListN.{length, drop, replicate, drop-of-length-le}
+use lib.ListN.{length, drop, drop-of-length-le}
 use denote.Ref.{now}
 use Rattle.codec.specs.Bits.{bitsOf, lowBits}
 use Rattle.codec.proofs.Laws.Windows.{tail-window, word-window}

@@ -1,12 +1,11 @@
 -- `codec::delta_at` meets its contract.
-use Prim.Native.Nat.{ℕ, _<_}
-use mathlib.Core.Path.{_≡_, subst}
+use mathlib.Core.Path.{subst}
 use native.Mathlib.Omega.{arith}
 use borrow.Author.Needs.{needs}
 use denote.Ref.{now}
 use Rattle.codec.specs.Codes.{readGamma}
-use Rattle.codec.specs.Places.{FoundAt}
-use Rattle.codec.specs.declared.codes.Found.the-variants.{Value, Missing}
+use Rattle.codec.specs.Inside.Places.{ReadCodeAt}
+use Rattle.codec.specs.declared.codes.ReadCode.the-variants.{Value}
 use Rattle.codec.proofs.Laws.Codes.{delta-from, delta-large}
 use Rattle.codec.proofs.Laws.Places.{found-as}
 use Rattle.codec.proofs.codes.delta_at.Statement.{statement}
@@ -28,16 +27,16 @@ enum-told c = search needs
 returns : tie.Need-returns
 returns c =
     let start = c .before .before .before .before in
-    let none = subst (FoundAt readGamma (now (start .args .bytes)) (start .args .at)) (c .enum-told .given .1) (c .before .before .read-gamma .ensures) in
+    let none = subst (ReadCodeAt readGamma (now (start .args .bytes)) (start .args .at)) (c .enum-told .given .1) (c .before .before .read-gamma .ensures) in
     delta-large _ (λ n mid e. omega (arith, none n mid e))
 
 cast-low-at : tie.Need-cast-low-at
 cast-low-at c = search needs
 
-found : (c : tie.After-known-told) → FoundAt readGamma (now (c .before .before .before .before .before .args .bytes)) (c .before .before .before .before .before .args .at) (Value (c .before .value .given .0 .0) (c .before .value .given .0 .1 .0))
+found : (c : tie.After-known-told) → ReadCodeAt readGamma (now (c .before .before .before .before .before .args .bytes)) (c .before .before .before .before .before .args .at) (Value (c .before .value .given .0 .0) (c .before .value .given .0 .1 .0))
 found c =
     let start = c .before .before .before .before .before in
-    subst (FoundAt readGamma (now (start .args .bytes)) (start .args .at)) (c .before .value .given .1) (c .before .before .before .read-gamma .ensures)
+    subst (ReadCodeAt readGamma (now (start .args .bytes)) (start .args .at)) (c .before .value .given .1) (c .before .before .before .read-gamma .ensures)
 
 low-at-requires : tie.Need-low-at-requires
 low-at-requires c κs = omega (arith, found c .1)

@@ -1,9 +1,8 @@
 -- `codec::delta_len` meets its contract.
-use Prim.Native.Nat.{ℕ, _+_, _-_, _*_, _^_, _≤_, _<_}
-use mathlib.Core.Path.{_≡_, sym, ap, _∙_}
+use Prim.Native.Nat.{ℕ, _+_, _-_, _*_}
+use mathlib.Core.Path.{sym, ap, _∙_}
 use native.Mathlib.Omega.{arith}
 use lib.ListN.{length}
-use lib.Count.{leadingZeros}
 use Rattle.codec.specs.Codes.{highBit, delta}
 use Rattle.codec.proofs.Laws.Codes.{high-leading}
 use Rattle.codec.proofs.Laws.Bits.{length-delta, high-lt}

@@ -1,5 +1,5 @@
 -- `codec::delta_of` meets its contract.
-use mathlib.Core.Path.{_≡_, refl}
+use mathlib.Core.Path.{refl}
 use native.Mathlib.Omega.{arith}
 use Rattle.codec.proofs.Laws.Windows.{delta-of}
 use borrow.Author.Needs.{needs}

@@ -1,14 +1,14 @@
 -- `codec::delta_word` meets its contract: the gamma code of the highest set bit, and the bits below it.
 use Prim.Native.Nat.{ℕ, _+_, _-_, _*_, _%_, _^_, _≤_, _<_}
-use mathlib.Core.Path.{_≡_, refl, sym, ap, _∙_, subst}
+use mathlib.Core.Path.{_≡_, sym, ap, _∙_, subst}
 use native.Mathlib.Nat.{lt-of-lt-of-le}
 use native.Mathlib.Omega.{arith}
 use lib.Pow.{pow-mono}
 use Rattle.codec.specs.Bits.{lowBits}
 use Rattle.codec.specs.Codes.{highBit, gamma, delta}
-use Rattle.codec.specs.Writers.{SplitOf, WordOf}
+use Rattle.codec.specs.Inside.Writers.{SplitOf, CodewordOf}
 use Rattle.codec.specs.declared.codes.Split.{Split}
-use Rattle.codec.proofs.Laws.Bits.{delta-low, high-lt, joined-lt, shifted}
+use Rattle.codec.proofs.Laws.Bits.{delta-low, high-lt, joined-lt, shift-fits}
 use borrow.Author.Needs.{needs}
 use Rattle.codec.proofs.codes.delta_word.Statement.{statement}
 use Rattle.codec.proofs.codes.delta_word.Tie as tie
@@ -30,7 +30,7 @@ module _ (v : ℕ) (r : Split) (count g : ℕ) (most : v ≤ 2 ^ 20) (split : Sp
   small = subst (λ (k : ℕ). g < 2 ^ k) k-is (head .1)
 
   shl : r .low * 2 ^ (count - r .bit) % 2 ^ 64 ≡ r .low * 2 ^ (count - r .bit)
-  shl = shifted (count - r .bit) (r .bit) (r .low) (split .small) (omega (arith, long .0, long .1))
+  shl = shift-fits (count - r .bit) (r .bit) (r .low) (split .small) (omega (arith, long .0, long .1))
 
   all : count ≡ count - r .bit + r .bit
   all = omega (arith, long .0)
@@ -41,7 +41,7 @@ module _ (v : ℕ) (r : Split) (count g : ℕ) (most : v ≤ 2 ^ 20) (split : Sp
   sum-fits : g + r .low * 2 ^ (count - r .bit) % 2 ^ 64 < 2 ^ 64
   sum-fits = rw shl (lt-of-lt-of-le value-lt (pow-mono {j = 64} (omega (arith, long .1))))
 
-  word : WordOf (record { value = g + r .low * 2 ^ (count - r .bit) % 2 ^ 64; count = count }) (delta v)
+  word : CodewordOf (record { value = g + r .low * 2 ^ (count - r .bit) % 2 ^ 64; count = count }) (delta v)
   word = record {
     code = rw shl (ap (λ (k : ℕ). lowBits k (g + r .low * 2 ^ (count - r .bit))) all ∙ delta-low v (r .bit) (r .low) (count - r .bit) g (split .bit) (split .sum) (split .small) small (subst (λ (k : ℕ). lowBits k g ≡ gamma (r .bit)) k-is (head .0)));
     small = rw shl value-lt;

@@ -1,9 +1,8 @@
 -- `codec::gamma_value` meets its contract, by the table's rule.
-use Prim.Native.Nat.{ℕ, _+_, _*_, _^_, _≤_, _<_}
+use Prim.Native.Nat.{_+_}
 use native.Mathlib.Omega.{arith}
 use native.Mathlib.Nat.{lt-of-lt-of-le}
 use lib.Pow.{pow-mono}
-use Rattle.codec.specs.Codes.{highBit}
 use Rattle.codec.proofs.Laws.Bits.{high-lt}
 use Rattle.codec.proofs.Laws.Tables.{gamma-is}
 use borrow.Author.Needs.{needs}

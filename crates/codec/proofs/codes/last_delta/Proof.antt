@@ -4,7 +4,7 @@ use mathlib.Core.Path.{subst}
 use native.Mathlib.Omega.{arith}
 use denote.Ref.{now}
 use lib.ListN.{length}
-use Rattle.codec.specs.Windows.{CodedIn}
+use Rattle.codec.specs.Inside.Windows.{CodedIn}
 use Rattle.codec.specs.declared.codes.Coded.the-variants.{Code}
 use Rattle.codec.proofs.Laws.Windows.{window-found}
 use borrow.Author.Needs.{needs}

@@ -1,6 +1,6 @@
 -- `codec::low_at` meets its contract.
-use Prim.Native.Nat.{ℕ, _+_, _*_, _%_, _^_, _≤_, _<_}
-use mathlib.Core.Path.{_≡_, refl}
+use Prim.Native.Nat.{_*_, _%_, _^_, _≤_, _<_}
+use mathlib.Core.Path.{_≡_}
 use native.Mathlib.Nat.{one-mul, mod-eq-of-lt}
 use native.Mathlib.Omega.{arith}
 use lib.ListN.{length, drop, length-drop}

@@ -1,9 +1,9 @@
 -- `codec::next_delta` meets its contract.
-use Prim.Native.Nat.{ℕ, _+_, _-_, _*_, _/_, _%_, _^_}
+use Prim.Native.Nat.{ℕ, _-_, _*_, _/_, _%_, _^_}
 use mathlib.Core.Path.{_≡_, subst}
 use native.Mathlib.Omega.{arith}
 use denote.Ref.{now}
-use Rattle.codec.specs.Windows.{CodedIn}
+use Rattle.codec.specs.Inside.Windows.{CodedIn}
 use Rattle.codec.specs.declared.codes.Coded.the-variants.{Code}
 use Rattle.codec.proofs.Laws.Windows.{word-window, window-found}
 use borrow.Author.Needs.{needs}

@@ -1,7 +1,7 @@
 -- `codec::gamma_at` meets its contract. The loop's invariant: the zeros so far and those from `place` are the zeros from `at`.
-use Prim.Native.Nat.{ℕ, _+_, _-_, _*_, _%_, _^_, _≤_, _<_}
-use mathlib.Core.Path.{_≡_, refl, sym, ap, _∙_, subst}
-use mathlib.Core.Bool.{Bool, true, false}
+use Prim.Native.Nat.{ℕ, _+_, _-_, _*_, _≤_, _<_}
+use mathlib.Core.Path.{_≡_, sym, ap, _∙_, subst}
+use mathlib.Core.Bool.{true, false}
 use native.Mathlib.Omega.{arith}
 use lib.ListN.{length, getD, drop}
 use mathlib.Core.List.{List}
@@ -11,7 +11,7 @@ use Rattle.codec.specs.declared.codes.Zeros.{Zeros}
 use Rattle.codec.specs.declared.codes.Zeros.the-variants.{Count, End}
 use denote.Ref.{now}
 use Rattle.codec.specs.Bits.{bitsOf, digit}
-use Rattle.codec.specs.Codes.{readZeros, readGamma, readLow, got, end}
+use Rattle.codec.specs.Codes.{readZeros, got, end}
 use Rattle.codec.proofs.Laws.Low.{length-bits, digit-zero, digit-one}
 use Rattle.codec.proofs.Laws.Codes.{zeros-more, zeros-stop, zeros-end, end-got, gamma-end, gamma-from}
 use Rattle.codec.proofs.Laws.Places.{found-as}

@@ -1,12 +1,11 @@
 -- `codec::split_top` meets its contract: the leading zeros, the highest set bit and the bits below it make 32.
-use Prim.Native.Nat.{ℕ, _+_, _-_, _*_, _%_, _^_, _≤_, _<_}
-use mathlib.Core.Path.{_≡_, refl, sym, ap, _∙_, subst}
+use Prim.Native.Nat.{ℕ, _-_, _*_, _%_, _^_, _≤_, _<_}
+use mathlib.Core.Path.{_≡_, sym, subst}
 use native.Mathlib.Nat.{one-mul, mod-eq-of-lt}
 use native.Mathlib.Omega.{arith}
 use lib.Count.{leadingZeros, leading-top}
 use lib.Pow.{pow-lt}
-use Rattle.codec.specs.Codes.{highBit}
-use Rattle.codec.specs.Writers.{SplitOf}
+use Rattle.codec.specs.Inside.Writers.{SplitOf}
 use Rattle.codec.proofs.Laws.Codes.{Top, high-unique}
 use borrow.Author.Needs.{needs}
 use Rattle.codec.proofs.codes.split_top.Statement.{statement}

@@ -1,5 +1,4 @@
 -- `codec::top_len` meets its contract, by the table's rule.
-use Prim.Native.Nat.{ℕ, _≤_, _<_}
 use native.Mathlib.Omega.{arith}
 use Rattle.codec.proofs.Laws.Tables.{len-is}
 use borrow.Author.Needs.{needs}

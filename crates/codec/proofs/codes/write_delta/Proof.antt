@@ -1,13 +1,10 @@
 -- `codec::put_delta` meets its contract.
-use Prim.Native.Nat.{ℕ, _≤_}
 use mathlib.Core.Path.{_≡_, sym, ap, _∙_, subst}
-use mathlib.Core.List.{List}
-use mathlib.Core.Bool.{Bool}
 use native.Mathlib.Omega.{arith}
 use lib.ListN.{length}
 use denote.Ref.{now}
 use Rattle.codec.specs.Codes.{delta}
-use Rattle.codec.specs.Writers.{Ready, Wrote, WordOf}
+use Rattle.codec.specs.Inside.Writers.{Ready, Wrote}
 use Rattle.codec.proofs.Laws.Low.{length-low}
 use borrow.Author.Needs.{needs}
 use Rattle.codec.proofs.codes.write_delta.Statement.{statement}

@@ -4,7 +4,7 @@ use mathlib.Core.Path.{_≡_, refl, ap, _∙_}
 use native.Mathlib.Omega.{arith}
 use denote.Ref.{now}
 use borrow.Author.Needs.{needs}
-use Rattle.codec.specs.Gaps.{upIn}
+use Rattle.codec.specs.Inside.Gaps.{upIn}
 use Rattle.codec.proofs.Laws.Coded.{up-next}
 use Rattle.codec.proofs.gaps.count_up.Statement.{statement}
 use Rattle.codec.proofs.gaps.count_up.Tie as tie

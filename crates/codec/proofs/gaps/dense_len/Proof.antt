@@ -7,11 +7,11 @@ use native.Mathlib.Omega.{arith}
 use lib.ListN.{length, length-append}
 use denote.Ref.{now}
 use Rattle.codec.specs.Codes.{delta}
-use Rattle.codec.specs.Gaps.{Gave}
+use Rattle.codec.specs.Inside.Gaps.{Gave}
 use Rattle.codec.proofs.Laws.Coded.{Coding, coding-start, coding-next, coding-end, gave-absent, gave-no-absent}
 use Rattle.codec.proofs.codes.delta_len.Reads as delta-len-reads
 use Rattle.codec.proofs.gaps.skip_present.Reads as skip-present-reads
-use Rattle.codec.specs.declared.gaps.Next.the-variants.{Id}
+use Rattle.codec.specs.declared.gaps.NextId.the-variants.{Id}
 use Rattle.codec.proofs.gaps.dense_len.Statement.{statement}
 use Rattle.codec.proofs.gaps.dense_len.Tie as tie
 use Rattle.codec.proofs.gaps.dense_len.Reads as reads

@@ -1,8 +1,7 @@
 -- `gaps::fill_gaps` meets its contract.
 use Prim.Native.Nat.{ℕ}
-use mathlib.Core.Path.{_≡_, ap, _∙_}
+use mathlib.Core.Path.{ap, _∙_}
 use mathlib.Core.List.{List}
-use native.Mathlib.Omega.{arith}
 use denote.Ref.{now}
 use Rattle.base.specs.Parts.{over}
 use Rattle.codec.proofs.Laws.Gaps.{kept-ids, put-ids}

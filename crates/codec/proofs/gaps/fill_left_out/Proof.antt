@@ -1,6 +1,6 @@
 -- `gaps::fill_left_out` meets its contract.
 use Prim.Native.Nat.{ℕ}
-use mathlib.Core.Path.{_≡_, sym, ap, _∙_, subst}
+use mathlib.Core.Path.{sym, ap, _∙_, subst}
 use mathlib.Core.List.{List}
 use native.Mathlib.Omega.{arith}
 use denote.Ref.{now}
@@ -8,7 +8,7 @@ use lib.ListN.{length}
 use lib.Seq.{length-take-le}
 use Rattle.base.specs.Parts.{over}
 use Rattle.codec.specs.Sets.{Within, absent, ReadIds}
-use Rattle.codec.specs.Gaps.{Kept}
+use Rattle.codec.specs.Inside.Gaps.{Kept}
 use Rattle.codec.proofs.Laws.Sets.{gaps-only}
 use borrow.Author.Needs.{needs}
 use Rattle.codec.proofs.Laws.Gaps.{kept-ids}

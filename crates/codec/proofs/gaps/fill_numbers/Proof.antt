@@ -7,7 +7,7 @@ use borrow.Author.Needs.{needs}
 use denote.Ref.{now}
 use lib.ListN.{length, take, set, length-set}
 use Rattle.base.specs.Parts.{over}
-use Rattle.codec.specs.Gaps.{numbers}
+use Rattle.codec.specs.Inside.Gaps.{numbers}
 use Rattle.codec.proofs.Laws.Filled.{over-start, over-next}
 use Rattle.codec.proofs.Laws.Gaps.{length-numbers, numbers-more}
 use Rattle.codec.proofs.gaps.fill_numbers.Statement.{statement}

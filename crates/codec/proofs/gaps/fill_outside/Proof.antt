@@ -1,6 +1,6 @@
 -- `gaps::fill_outside` meets its contract.
 use Prim.Native.Nat.{ℕ, _≤_, _-_, _+_, _<_}
-use mathlib.Core.Path.{_≡_, refl, sym, ap, _∙_, subst}
+use mathlib.Core.Path.{_≡_, refl, sym, ap, _∙_}
 use mathlib.Core.List.{List, [], _∷_, _++_, append-assoc}
 use native.Mathlib.Numerals.{add-one}
 use native.Mathlib.Omega.{arith}
@@ -10,7 +10,7 @@ use lib.ListN.{length, drop, getD, length-drop, drop-of-length-le}
 use lib.Seq.{drop-cons}
 use Rattle.base.specs.Parts.{over}
 use Rattle.codec.specs.Sets.{Within, absent}
-use Rattle.codec.specs.Gaps.{absentFrom, numbers}
+use Rattle.codec.specs.Inside.Gaps.{absentFrom, numbers}
 use Rattle.codec.proofs.Laws.Coded.{head-within}
 use Rattle.codec.proofs.Laws.Filled.{over-none, over-more, long-more, same-more}
 use Rattle.codec.proofs.Laws.Gaps.{within-room, length-numbers, absent-run, absent-end, absent-all}

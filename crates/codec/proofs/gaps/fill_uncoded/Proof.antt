@@ -9,9 +9,9 @@ use lib.ListN.{length, drop}
 use Rattle.base.specs.Parts.{over}
 use Rattle.codec.specs.Bits.{bitsOf}
 use Rattle.codec.specs.Codes.{readDelta}
-use Rattle.codec.specs.Places.{FoundAt}
+use Rattle.codec.specs.Inside.Places.{ReadCodeAt}
 use Rattle.codec.specs.Sets.{absent, ReadIds, readGaps}
-use Rattle.codec.specs.Gaps.{absentFrom, numbers, idsIn}
+use Rattle.codec.specs.Inside.Gaps.{absentFrom, numbers, idsIn}
 use Rattle.codec.proofs.Laws.Filled.{over-none, over-more, long-more, same-more}
 use Rattle.codec.proofs.Laws.Gaps.{Left, Turn, left-all, left-turn, left-there, left-none, turn-room, length-numbers, absent-run, absent-end, absent-all}
 use Rattle.codec.proofs.gaps.fill_uncoded.Statement.{statement}
@@ -52,7 +52,7 @@ returns c =
     let d = c .before .before in
     let l = d .before .before in
     let start = l .before .before .before .before in
-    left-there _ _ _ _ _ _ (l .loop .inv .4 .5) (d .before .loop-test .taken) (start .pre .0 .1) (subst (FoundAt readDelta (now (start .args .bytes)) (l .loop .place)) (c .enum-told .given .1) (d .next-delta .ensures))
+    left-there _ _ _ _ _ _ (l .loop .inv .4 .5) (d .before .loop-test .taken) (start .pre .0 .1) (subst (ReadCodeAt readDelta (now (start .args .bytes)) (l .loop .place)) (c .enum-told .given .1) (d .next-delta .ensures))
 
 turn : (c : tie.After-known-told Inv-loop μ-loop)
     → Turn (c .before .before .before .before .before .before .before .before .before .args .n) (c .before .before .before .before .before .loop .i) (c .before .before .before .before .before .loop .from) (c .before .before .before .before .before .before .before .before .before .args .top) (c .before .value .given .0 .0)
@@ -60,7 +60,7 @@ turn : (c : tie.After-known-told Inv-loop μ-loop)
 turn c =
     let l = c .before .before .before .before .before in
     let start = l .before .before .before .before in
-    let f = subst (FoundAt readDelta (now (start .args .bytes)) (l .loop .place)) (c .before .value .given .1) (c .before .before .before .next-delta .ensures) in
+    let f = subst (ReadCodeAt readDelta (now (start .args .bytes)) (l .loop .place)) (c .before .value .given .1) (c .before .before .before .next-delta .ensures) in
     left-turn _ _ _ _ _ _ (l .loop .inv .4 .5) (c .before .before .before .before .loop-test .taken) _ _ (f .0)
 
 room : (c : tie.After-known-told Inv-loop μ-loop) → c .before .before .before .before .before .loop .from + c .before .value .given .0 .0 + c .before .before .before .before .before .before .before .before .before .args .n ≤ c .before .before .before .before .before .before .before .before .before .args .top + c .before .before .before .before .before .loop .i

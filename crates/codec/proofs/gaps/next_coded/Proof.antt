@@ -1,12 +1,12 @@
 -- `codec::gaps::next_coded` meets its contract.
-use Prim.Native.Nat.{ℕ, _+_}
-use mathlib.Core.Path.{_≡_, refl, sym, subst}
+use Prim.Native.Nat.{_+_}
+use mathlib.Core.Path.{sym, subst}
 use mathlib.Core.Bool.{Bool}
 use native.Mathlib.Omega.{arith}
 use lib.ListN.{getD}
 use denote.Ref.{now}
-use Rattle.codec.specs.Gaps.{Gave}
-use Rattle.codec.specs.declared.gaps.Next.the-variants.{Id, End}
+use Rattle.codec.specs.Inside.Gaps.{Gave}
+use Rattle.codec.specs.declared.gaps.NextId.the-variants.{Id, End}
 use Rattle.codec.proofs.Laws.Coded.{head-within, gave-absent, gave-no-absent, gave-id, gave-no-id}
 use borrow.Author.Needs.{needs}
 use Rattle.codec.proofs.gaps.next_coded.Statement.{statement}

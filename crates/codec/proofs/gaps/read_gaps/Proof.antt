@@ -9,10 +9,10 @@ use lib.ListN.{length, take, drop, set, length-set, length-append}
 use Rattle.base.specs.Parts.{over}
 use Rattle.codec.specs.Bits.{bitsOf}
 use Rattle.codec.specs.Codes.{readDelta}
-use Rattle.codec.specs.Places.{FoundAt}
+use Rattle.codec.specs.Inside.Places.{ReadCodeAt}
 use Rattle.codec.specs.Sets.{readGaps}
-use Rattle.codec.specs.Gaps.{after}
-use Rattle.codec.specs.declared.codes.Found.the-variants.{Value}
+use Rattle.codec.specs.Inside.Gaps.{withIds}
+use Rattle.codec.specs.declared.codes.ReadCode.the-variants.{Value}
 use Rattle.codec.proofs.Laws.Filled.{put-none, put-set}
 use Rattle.codec.proofs.Laws.Gaps.{after-nil, ahead, stuck, arrived, gaps-high, gaps-refused, put-refused, put-given}
 use Rattle.codec.proofs.gaps.read_gaps.Statement.{statement}
@@ -22,7 +22,7 @@ use Rattle.codec.proofs.gaps.read_gaps.Tie as tie
 abbrev Inv-loop : tie.InvT-loop
 Inv-loop bytes at n top room₀ last place₀ from₀ i₀ room place from i =
     (i ≤ n) × (from ≤ top) × (place ≤ 8 * length bytes) × (length room ≡ length room₀)
-    × ((xs : List ℕ) × (length xs ≡ i) × (room ≡ over (take (length room₀) xs) room₀) × (readGaps n 0 top (drop at (bitsOf bytes)) ≡ after xs (readGaps (n - i) from top (drop place (bitsOf bytes)))))
+    × ((xs : List ℕ) × (length xs ≡ i) × (room ≡ over (take (length room₀) xs) room₀) × (readGaps n 0 top (drop at (bitsOf bytes)) ≡ withIds xs (readGaps (n - i) from top (drop place (bitsOf bytes)))))
 
 abbrev μ-loop : tie.MeasureT-loop
 μ-loop bytes at n top room₀ last place₀ from₀ i₀ room place from i = n - i
@@ -36,7 +36,7 @@ last-word-requires c κs = omega arith
 loop-holds : tie.Need-loop-holds Inv-loop μ-loop
 loop-holds c =
     let start = c .before .before .before in
-    (omega arith, omega arith, omega arith, refl, ([], refl, put-none (now (start .args .room)), after-nil _ ∙ ap (λ (k : ℕ). after [] (readGaps k 0 (start .args .top) (drop (start .args .at) (bitsOf (now (start .args .bytes)))))) (whole (start .args .n))))
+    (omega arith, omega arith, omega arith, refl, ([], refl, put-none (now (start .args .room)), after-nil _ ∙ ap (λ (k : ℕ). withIds [] (readGaps k 0 (start .args .top) (drop (start .args .at) (bitsOf (now (start .args .bytes)))))) (whole (start .args .n))))
 
 next-delta-requires : tie.Need-next-delta-requires Inv-loop μ-loop
 next-delta-requires c κs = (search needs, c .before .before .last-word .ensures)
@@ -49,10 +49,10 @@ enum-told c = search needs
 
 -- what the turn read
 found : (c : tie.After-known-told Inv-loop μ-loop)
-    → FoundAt readDelta (now (c .before .before .before .before .before .before .before .before .before .args .bytes)) (c .before .before .before .before .before .loop .place) (Value (c .before .value .given .0 .0) (c .before .value .given .0 .1 .0))
+    → ReadCodeAt readDelta (now (c .before .before .before .before .before .before .before .before .before .args .bytes)) (c .before .before .before .before .before .loop .place) (Value (c .before .value .given .0 .0) (c .before .value .given .0 .1 .0))
 found c =
     let l = c .before .before .before .before .before in
-    subst (FoundAt readDelta (now (l .before .before .before .before .args .bytes)) (l .loop .place)) (c .before .value .given .1) (c .before .before .before .next-delta .ensures)
+    subst (ReadCodeAt readDelta (now (l .before .before .before .before .args .bytes)) (l .loop .place)) (c .before .value .given .1) (c .before .before .before .next-delta .ensures)
 
 same-length : tie.Need-same-length Inv-loop μ-loop
 same-length c = search needs
@@ -62,7 +62,7 @@ returns c =
     let d = c .before .before in
     let l = d .before .before in
     let start = l .before .before .before .before in
-    let none-here = subst (FoundAt readDelta (now (start .args .bytes)) (l .loop .place)) (c .enum-told .given .1) (d .next-delta .ensures) in
+    let none-here = subst (ReadCodeAt readDelta (now (start .args .bytes)) (l .loop .place)) (c .enum-told .given .1) (d .next-delta .ensures) in
     let e = stuck _ (l .loop .inv .4 .0) (start .args .n) (l .loop .i) (l .loop .from) (start .args .top) _ (d .before .loop-test .taken) (l .loop .inv .4 .3) (gaps-refused _ _ _ _ none-here (start .pre .1)) in
     (e, put-refused _ _ _ e)
 

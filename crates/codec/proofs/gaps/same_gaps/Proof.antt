@@ -9,11 +9,11 @@ use lib.ListN.{length, drop}
 use denote.Ref.{now}
 use Rattle.codec.specs.Bits.{bitsOf}
 use Rattle.codec.specs.Codes.{delta, got, readDelta}
-use Rattle.codec.specs.Places.{FoundAt}
+use Rattle.codec.specs.Inside.Places.{ReadCodeAt}
 use Rattle.codec.specs.Sets.{gapBits}
-use Rattle.codec.specs.Gaps.{codedIds, Gave}
-use Rattle.codec.specs.declared.codes.Found.the-variants.{Value, Missing}
-use Rattle.codec.specs.declared.gaps.Next.the-variants.{Id, End}
+use Rattle.codec.specs.Inside.Gaps.{codedIds, Gave}
+use Rattle.codec.specs.declared.codes.ReadCode.the-variants.{Value}
+use Rattle.codec.specs.declared.gaps.NextId.the-variants.{Id}
 use Rattle.codec.proofs.Laws.Codes.{delta-only}
 use Rattle.codec.proofs.Laws.Coded.{Coding, coding-start, coding-next, coding-end, coding-read}
 use Rattle.codec.proofs.gaps.same_gaps.Statement.{statement}
@@ -95,16 +95,16 @@ returns-2 c =
     let k = d .before in
     let l = k .before .before .before .before in
     let a = l .before .before .before .before .args in
-    let none-here = subst (FoundAt readDelta (now (a .bytes)) (l .loop .place)) (c .enum-told2 .given .1) (d .next-delta .ensures) in
+    let none-here = subst (ReadCodeAt readDelta (now (a .bytes)) (l .loop .place)) (c .enum-told2 .given .1) (d .next-delta .ensures) in
     λ rest e. let m = reads-on k rest e in omega (arith, none-here _ _ (m .1), gave k .2)
 
 -- what the turn read
 found : (c : tie.After-known-told2 Inv-loop μ-loop)
-    → FoundAt readDelta (now (c .before .before .before .before .before .before .before .before .before .before .before .before .args .bytes)) (c .before .before .before .before .before .before .before .before .loop .place) (Value (c .before .value .given .0 .0) (c .before .value .given .0 .1 .0))
+    → ReadCodeAt readDelta (now (c .before .before .before .before .before .before .before .before .before .before .before .before .args .bytes)) (c .before .before .before .before .before .before .before .before .loop .place) (Value (c .before .value .given .0 .0) (c .before .value .given .0 .1 .0))
 found c =
     let d = c .before .before .before in
     let l = d .before .before .before .before .before in
-    subst (FoundAt readDelta (now (l .before .before .before .before .args .bytes)) (l .loop .place)) (c .before .value .given .1) (d .next-delta .ensures)
+    subst (ReadCodeAt readDelta (now (l .before .before .before .before .args .bytes)) (l .loop .place)) (c .before .value .given .1) (d .next-delta .ensures)
 
 sub-if1 : tie.Need-sub-if1 Inv-loop μ-loop
 sub-if1 c = omega (arith, gave (c .before .before .before .before) .1)

@@ -3,7 +3,7 @@ use Prim.Native.Nat.{_+_, _-_}
 use native.Mathlib.Omega.{arith}
 use lib.ListN.{length}
 use denote.Ref.{now}
-use Rattle.codec.specs.Gaps.{Skipped}
+use Rattle.codec.specs.Inside.Gaps.{Skipped}
 use Rattle.codec.proofs.Laws.Coded.{skipped-one, skipped-all}
 use Rattle.codec.proofs.gaps.skip_last.Statement.{statement}
 use Rattle.codec.proofs.gaps.skip_last.Tie as tie

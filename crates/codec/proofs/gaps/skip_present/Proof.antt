@@ -3,7 +3,7 @@ use Prim.Native.Nat.{_+_, _-_, _≤_}
 use native.Mathlib.Omega.{arith}
 use lib.ListN.{length, getD}
 use denote.Ref.{now}
-use Rattle.codec.specs.Gaps.{Skipped}
+use Rattle.codec.specs.Inside.Gaps.{Skipped}
 use Rattle.codec.proofs.Laws.Coded.{skipped-none, skipped-eight, skipped-high, counted-all}
 use Rattle.codec.proofs.gaps.skip_present.Statement.{statement}
 use Rattle.codec.proofs.gaps.skip_present.Tie as tie

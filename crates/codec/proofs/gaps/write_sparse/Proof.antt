@@ -8,12 +8,12 @@ use lib.ListN.{length, getD}
 use denote.Ref.{now}
 use Rattle.codec.specs.Codes.{delta}
 use Rattle.codec.specs.Sets.{gapBits}
-use Rattle.codec.specs.Gaps.{codedIds, Gave}
-use Rattle.codec.specs.Writers.{Wrote}
+use Rattle.codec.specs.Inside.Gaps.{codedIds, Gave}
+use Rattle.codec.specs.Inside.Writers.{Wrote}
 use Rattle.codec.proofs.Laws.Coded.{Coding, coding-start, coding-next, coding-end, coding-room, gave-id, gave-no-id}
 use Rattle.codec.proofs.Laws.Writers.{wrote-none, wrote-then, ready-after}
 use Rattle.codec.proofs.codes.write_delta.Reads as write-delta-reads
-use Rattle.codec.specs.declared.gaps.Next.the-variants.{Id}
+use Rattle.codec.specs.declared.gaps.NextId.the-variants.{Id}
 use Rattle.codec.proofs.gaps.write_sparse.Statement.{statement}
 use Rattle.codec.proofs.gaps.write_sparse.Tie as tie
 use Rattle.codec.proofs.gaps.write_sparse.Reads as reads

@@ -4,7 +4,7 @@ use native.Mathlib.Omega.{arith}
 use denote.Ref.{now}
 use borrow.Author.Needs.{needs}
 use Rattle.base.specs.Answers.{ofMade}
-use Rattle.codec.specs.Indexes.{SteppedAt, madeOf}
+use Rattle.codec.specs.Inside.Indexes.{SteppedAt, madeOf}
 use Rattle.codec.proofs.Laws.Indexing.{Checking, checking-none, checking-more, checking-stop, checking-end}
 use Rattle.codec.proofs.index.check_records.Statement.{statement}
 use Rattle.codec.proofs.index.check_records.Tie as tie

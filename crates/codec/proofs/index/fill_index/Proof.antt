@@ -5,7 +5,7 @@ use native.Mathlib.Omega.{arith}
 use denote.Ref.{now}
 use lib.ListN.{length-set}
 use borrow.Author.Needs.{needs}
-use Rattle.codec.specs.Indexes.{SteppedAt}
+use Rattle.codec.specs.Inside.Indexes.{SteppedAt}
 use Rattle.codec.proofs.Laws.Indexing.{Filling, filling-none, filling-more, filling-stop, filling-end}
 use Rattle.codec.proofs.index.fill_index.Statement.{statement}
 use Rattle.codec.proofs.index.fill_index.Tie as tie

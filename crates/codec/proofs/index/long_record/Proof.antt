@@ -3,7 +3,7 @@ use mathlib.Core.Path.{sym, ap, _∙_, subst}
 use native.Mathlib.Omega.{arith}
 use denote.Ref.{now}
 use borrow.Author.Needs.{needs}
-use Rattle.codec.specs.Indexes.{SteppedAt, upOf}
+use Rattle.codec.specs.Inside.Indexes.{SteppedAt, upStep}
 use Rattle.codec.specs.declared.prefix.Prefix.the-variants.{Whole}
 use Rattle.codec.proofs.Laws.Indexing.{Says, part-says, step-up, step-start, step-cut, step-next}
 use Rattle.codec.proofs.index.long_record.Statement.{statement}
@@ -40,7 +40,7 @@ returns : tie.Need-returns
 returns c =
     let start = c .before .before .before .before .before .before in
     let told = c .before .enum-told .given in
-    subst (SteppedAt (now (start .args .bytes)) (start .args .at)) (sym (c .passed-up .ensures ∙ ap upOf (told .1)))
+    subst (SteppedAt (now (start .args .bytes)) (start .args .at)) (sym (c .passed-up .ensures ∙ ap upStep (told .1)))
     (step-up _ _ (start .pre) (told .0 .0) (part-says (now (start .args .bytes)) (start .args .at) (c .before .before .before .read-varint-len .ensures) (told .1)))
 
 add-start : tie.Need-add-start

@@ -4,6 +4,7 @@ use mathlib.Core.Path.{sym, subst}
 use native.Mathlib.Omega.{arith}
 use denote.Ref.{now}
 use borrow.Author.Needs.{needs}
+use Rattle.base.specs.declared.Refusal.the-variants as refusal
 use Rattle.codec.specs.declared.prefix.Prefix.the-variants.{Whole}
 use Rattle.codec.proofs.Laws.Indexing.{Says, says-none, says-byte, step-up, step-cut, step-next}
 use Rattle.codec.proofs.index.next_record.Statement.{statement}
@@ -14,7 +15,7 @@ use Rattle.codec.proofs.bits.wide.Reads as wide-reads
 use Rattle.codec.proofs.index.long_record.Reads as long-record-reads
 
 returns : tie.Need-returns
-returns c = let start = c .before .before in step-up _ _ (start .pre) _ (says-none (now (start .args .bytes)) (start .args .at) (c .if1 .taken))
+returns c = let start = c .before .before in step-up _ _ (start .pre) refusal.Cut (says-none (now (start .args .bytes)) (start .args .at) (c .if1 .taken))
 
 shared-slice-read-wide : tie.Need-shared-slice-read-wide
 shared-slice-read-wide c = search needs

@@ -1,13 +1,9 @@
-use mathlib.Core.Path.{_≡_, refl, sym, ap, ap₂, _∙_, subst}
-use mathlib.Core.Bool.{Bool, true, false, not, _&&_, _||_}
-use mathlib.Core.List.{List, [], _∷_, _++_}
-use Prim.Native.Nat.{ℕ, zero, suc, _+_, _-_, _*_, _/_, _%_, _≤_, _<_, min}
+use mathlib.Core.List.{[], _∷_}
+use Prim.Native.Nat.{_+_, _-_, _/_, _%_, _≤_}
 use native.Mathlib.Omega.{arith}
-use native.Mathlib.Numerals.{add-one}
 use denote.Ref.{now}
-use lib.ListN.{length, take, drop, getD, set, replicate, length-set, take-append-drop, drop-of-length-le}
-use Rattle.codec.proofs.Laws.Varints.{prefix-1, prefix-2, prefix-3, prefix-4, prefix-5, put-all, long-1, long-2, long-3, long-4, long-5}
-use Rattle.codec.specs.Prefix.{prefixOf}
+use lib.ListN.{length, set, length-set}
+use Rattle.codec.proofs.Laws.Varints.{prefix-1, prefix-2, prefix-3, prefix-4, prefix-5, groups-put, long-1, long-2, long-3, long-4, long-5}
 use Rattle.base.specs.Parts.{over}
 use borrow.Author.Needs.{needs}
 use Rattle.codec.proofs.prefix.fill_varint.Statement.{statement}
@@ -40,7 +36,7 @@ returns c =
     let n = start .args .n in
     let out = now (start .args .out) in
     let h : 1 ≤ length out = omega (arith, long-1 n, start .pre) in
-    rw (prefix-1 n (omega arith)) (put-all (n ∷ []) out h)
+    rw (prefix-1 n (omega arith)) (groups-put (n ∷ []) out h)
 
 -- src/lib.rt:91:15
 add-out : tie.Need-add-out
@@ -84,7 +80,7 @@ returns-2 c =
     let n = start .args .n in
     let out = now (start .args .out) in
     let h : 2 ≤ length out = omega (arith, long-2 n (omega arith), start .pre) in
-    rw (prefix-2 n (omega arith) (omega arith)) (put-all ((n % 128 + 128) ∷ n / 128 ∷ []) out h)
+    rw (prefix-2 n (omega arith) (omega arith)) (groups-put ((n % 128 + 128) ∷ n / 128 ∷ []) out h)
 
 -- src/lib.rt:97:15
 add-out-2 : tie.Need-add-out-2
@@ -128,7 +124,7 @@ returns-3 c =
     let n = start .args .n in
     let out = now (start .args .out) in
     let h : 3 ≤ length out = omega (arith, long-3 n (omega arith) (omega arith), start .pre) in
-    rw (prefix-3 n (omega arith) (omega arith) (omega arith)) (put-all ((n % 128 + 128) ∷ (n / 128 % 128 + 128) ∷ n / 128 / 128 ∷ []) out h)
+    rw (prefix-3 n (omega arith) (omega arith) (omega arith)) (groups-put ((n % 128 + 128) ∷ (n / 128 % 128 + 128) ∷ n / 128 / 128 ∷ []) out h)
 
 -- src/lib.rt:103:15
 add-out-3 : tie.Need-add-out-3
@@ -172,7 +168,7 @@ returns-4 c =
     let n = start .args .n in
     let out = now (start .args .out) in
     let h : 4 ≤ length out = omega (arith, long-4 n (omega arith) (omega arith) (omega arith), start .pre) in
-    rw (prefix-4 n (omega arith) (omega arith) (omega arith) (omega arith)) (put-all ((n % 128 + 128) ∷ (n / 128 % 128 + 128) ∷ (n / 128 / 128 % 128 + 128) ∷ n / 128 / 128 / 128 ∷ []) out h)
+    rw (prefix-4 n (omega arith) (omega arith) (omega arith) (omega arith)) (groups-put ((n % 128 + 128) ∷ (n / 128 % 128 + 128) ∷ (n / 128 / 128 % 128 + 128) ∷ n / 128 / 128 / 128 ∷ []) out h)
 
 -- src/lib.rt:109:15
 add-out-4 : tie.Need-add-out-4
@@ -216,7 +212,7 @@ returns-5 c =
     let n = start .args .n in
     let out = now (start .args .out) in
     let h : 5 ≤ length out = omega (arith, long-5 n (omega arith) (omega arith) (omega arith) (omega arith), start .pre) in
-    rw (prefix-5 n (omega arith) (omega arith) (omega arith) (omega arith) (omega arith)) (put-all ((n % 128 + 128) ∷ (n / 128 % 128 + 128) ∷ (n / 128 / 128 % 128 + 128) ∷ (n / 128 / 128 / 128 % 128 + 128) ∷ n / 128 / 128 / 128 / 128 ∷ []) out h)
+    rw (prefix-5 n (omega arith) (omega arith) (omega arith) (omega arith) (omega arith)) (groups-put ((n % 128 + 128) ∷ (n / 128 % 128 + 128) ∷ (n / 128 / 128 % 128 + 128) ∷ (n / 128 / 128 / 128 % 128 + 128) ∷ n / 128 / 128 / 128 / 128 ∷ []) out h)
 
 pub fill-varint-spec : {M : Type 1} → statement M
 fill-varint-spec =

@@ -1,6 +1,6 @@
--- `leb::last_group` meets its contract.
-use Prim.Native.Nat.{ℕ, _+_, _*_, _%_, _^_, _≤_, _<_}
-use mathlib.Core.Path.{_≡_, refl, sym, ap, _∙_}
+-- `prefix::last_group` meets its contract.
+use Prim.Native.Nat.{ℕ, _+_, _*_, _%_, _^_, _<_}
+use mathlib.Core.Path.{_≡_, refl, ap, _∙_}
 use mathlib.Core.Bool.{Bool, true, false, not, _||_}
 use mathlib.Core.Logic.{inl, inr}
 use native.Mathlib.Nat.{mul-comm, lt-of-lt-of-le}
@@ -8,7 +8,7 @@ use native.Mathlib.Omega.{arith}
 use lib.Dec.{ltb, eqb}
 use lib.Pow.{pow-mono}
 use borrow.Author.Tests.{lt-ltb, le-ltb, eq-eqb, ne-eqb}
-use Rattle.codec.proofs.Laws.Bits.{joined-lt, shifted}
+use Rattle.codec.proofs.Laws.Bits.{joined-lt, shift-fits}
 use borrow.Author.Needs.{needs}
 use Rattle.codec.proofs.prefix.last_group.Statement.{statement}
 use Rattle.codec.proofs.prefix.last_group.Tie as tie
@@ -20,7 +20,7 @@ or-true true = refl
 or-true false = refl
 
 shl : (b i : ℕ) → b < 128 → i < 5 → b * 2 ^ (7 * i) % 2 ^ 64 ≡ b * 2 ^ (7 * i)
-shl b i h l = shifted (7 * i) 7 b h (omega arith)
+shl b i h l = shift-fits (7 * i) 7 b h (omega arith)
 
 sum-eq : (low b i : ℕ) → (low < 2 ^ (7 * i)) × (b < 128) × (i < 5) → low + b * 2 ^ (7 * i) % 2 ^ 64 ≡ low + 2 ^ (7 * i) * b
 sum-eq low b i h = ap (λ (x : ℕ). low + x) (shl b i (h .1) (h .2) ∙ mul-comm b (2 ^ (7 * i)))

@@ -1,13 +1,13 @@
--- `leb::read_prefix` meets its contract.
-use Prim.Native.Nat.{ℕ, _+_, _-_, _*_, _%_, _^_, _≤_, _<_}
-use mathlib.Core.Path.{_≡_, refl, sym, ap, _∙_, subst}
+-- `prefix::read_varint_len` meets its contract.
+use Prim.Native.Nat.{_+_, _-_, _*_, _%_, _^_, _≤_}
+use mathlib.Core.Path.{_≡_, sym, ap, _∙_}
 use native.Mathlib.Omega.{arith}
 use native.Mathlib.Nat.{lt-of-lt-of-le}
 use lib.ListN.{length}
 use lib.Pow.{pow-mono}
 use denote.Ref.{now}
 use Rattle.codec.specs.Prefix.{prefixIn}
-use Rattle.codec.proofs.Laws.Bits.{shifted}
+use Rattle.codec.proofs.Laws.Bits.{shift-fits}
 use Rattle.codec.proofs.Laws.Prefix.{Sofar, sofar-none, sofar-cut, sofar-more, sofar-last, sofar-bad, prefix-in-last}
 use Rattle.codec.proofs.prefix.read_varint_len.Statement.{statement}
 use Rattle.codec.proofs.prefix.read_varint_len.Tie as tie
@@ -56,7 +56,7 @@ shl-value : tie.Need-shl-value Inv-loop μ-loop
 shl-value c = omega arith
 
 shl : (c : tie.Else2 Inv-loop μ-loop) → (c .before .wide .result - 128) * 2 ^ (7 * c .before .before .before .before .before .loop .i) % 2 ^ 64 ≡ (c .before .wide .result - 128) * 2 ^ (7 * c .before .before .before .before .before .loop .i)
-shl c = shifted (7 * c .before .before .before .before .before .loop .i) 7 (c .before .wide .result - 128) (omega arith) (omega arith)
+shl c = shift-fits (7 * c .before .before .before .before .before .loop .i) 7 (c .before .wide .result - 128) (omega arith) (omega arith)
 
 next : (c : tie.Else2 Inv-loop μ-loop)
     → Sofar (now (c .before .before .before .before .before .before .before .args .bytes)) (c .before .before .before .before .before .loop .value + (c .before .wide .result - 128) * 2 ^ (7 * c .before .before .before .before .before .loop .i) % 2 ^ 64) (c .before .before .before .before .before .loop .i + 1)

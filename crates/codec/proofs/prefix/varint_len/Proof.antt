@@ -1,13 +1,8 @@
-use mathlib.Core.Path.{_≡_, refl, sym, ap, ap₂, _∙_, subst}
-use mathlib.Core.Bool.{Bool, true, false, not, _&&_, _||_}
-use mathlib.Core.List.{List, [], _∷_, _++_}
-use Prim.Native.Nat.{ℕ, zero, suc, _+_, _-_, _*_, _/_, _%_, _≤_, _<_, min}
+use mathlib.Core.Path.{sym, ap}
+use Prim.Native.Nat.{_-_, _/_}
 use native.Mathlib.Omega.{arith}
-use native.Mathlib.Numerals.{add-one}
-use denote.Ref.{now}
-use lib.ListN.{length, take, drop, getD, set, replicate, length-set, take-append-drop, drop-of-length-le}
-use Rattle.codec.proofs.Laws.Varints.{prefix-1, prefix-2, prefix-3, prefix-4, prefix-5, put-all, long-1, long-2, long-3, long-4, long-5}
-use Rattle.codec.specs.Prefix.{prefixOf}
+use lib.ListN.{length}
+use Rattle.codec.proofs.Laws.Varints.{prefix-1, prefix-2, prefix-3, prefix-4, prefix-5}
 use Rattle.codec.proofs.prefix.varint_len.Statement.{statement}
 use Rattle.codec.proofs.prefix.varint_len.Tie as tie
 use Rattle.codec.proofs.prefix.varint_len.Reads as reads

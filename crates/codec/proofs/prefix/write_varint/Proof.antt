@@ -1,12 +1,9 @@
 -- `codec::write_varint` meets its contract.
-use Prim.Native.Nat.{ℕ, _<_, _≤_}
-use mathlib.Core.Path.{_≡_, refl, sym, ap, ap₂, _∙_}
-use mathlib.Core.List.{List, [], _∷_}
+use Prim.Native.Nat.{_<_, _≤_}
 use native.Mathlib.Omega.{arith}
 use lib.ListN.{length}
 use denote.Ref.{now}
 use borrow.Author.Needs.{needs}
-use Rattle.base.specs.Answers.{Answer, done}
 use Rattle.base.proofs.Tests.{tests}
 use Rattle.codec.specs.Prefix.{prefixOf, writePrefix}
 use Rattle.codec.proofs.prefix.write_varint.Statement.{statement}

@@ -38,13 +38,13 @@ use denote.Triple.Walked.{says, needs, Stays, stay-none-slice, walkOf, goes-none
 use denote.Exit.{yes}
 use denote.Triple.Clauses.{ensured, lasts}
 use Rattle.codec.specs.Codes.{readDelta}
-use Rattle.codec.specs.Places.{FoundAt}
+use Rattle.codec.specs.Inside.Places.{ReadCodeAt}
 use Rattle.codec.specs.declared.reader.BitReader.{BitReader}
-use Rattle.codec.specs.declared.codes.Found.{Found}
+use Rattle.codec.specs.declared.codes.ReadCode.{ReadCode}
 use Rattle.codec.proofs.reader.BitReader as T
 use Rattle.codec.proofs.reader.BitReader.Laws as T′
-use Rattle.codec.proofs.codes.Found as S
-use Rattle.codec.proofs.codes.Found.Laws as S′
+use Rattle.codec.proofs.codes.ReadCode as S
+use Rattle.codec.proofs.codes.ReadCode.Laws as S′
 use Rattle.codec.proofs.reader.BitReader.new as new
 use Rattle.codec.proofs.reader.BitReader.new.Symbol as new-def
 use Rattle.codec.proofs.reader.BitReader.new.Symbol.{name as #codec·new}
@@ -79,8 +79,8 @@ module _ {M : Type 1} (𝓤 : URA M) (H : Heap 𝓤) (A : Atoms 𝓤) (W : Given
   v = sliceVal (s .ptr) (length (s .now))
 
   -- what the contract says of the answer, at a slice and a place
-  abbrev Right : RefT (List ℕ) → ℕ → Found → Type 0
-  Right x n t = FoundAt readDelta (now x) n t
+  abbrev Right : RefT (List ℕ) → ℕ → ReadCode → Type 0
+  Right x n t = ReadCodeAt readDelta (now x) n t
 
   -- the struct's type as a local of a body has it
   abbrev αᵉ : NamedLft
@@ -112,10 +112,10 @@ module _ {M : Type 1} (𝓤 : URA M) (H : Heap 𝓤) (A : Atoms 𝓤) (W : Given
   goes-delta : (r : BitReader) (u : Val) → length (now (r .bytes)) < 2 ^ 60 → ent 𝓤 (⋆ 𝓤 H A (‵ (B (κ, tt) .own r (u ∷ [])) ∷ (‵ (flft κ q) ⊛ ‵ ftrue) ∷ [])) (Delta 𝓤 H A mem run .pre (to-delta r u))
   goes-delta r u small = qed W (‵ (B (κ, tt) .own r (u ∷ [])) ∷ (‵ (flft κ q) ⊛ ‵ ftrue) ∷ []) ∵ says ! small $ nothing ! $ move ! (1 ∷ 0 ∷ []) $ fjoin ! $ move ! (1 ∷ 0 ∷ []) $ frame ! $ done !
 
-  delta-said : (r : BitReader) (t : Found) → ent 𝓤 (ensured 𝓤 H A delta.ended (delta.clauses 𝓤 H A mem run) (κ, tt) (r, tt) tt t) (fact 𝓤 (Right (r .bytes) (r .position) t))
+  delta-said : (r : BitReader) (t : ReadCode) → ent 𝓤 (ensured 𝓤 H A delta.ended (delta.clauses 𝓤 H A mem run) (κ, tt) (r, tt) tt t) (fact 𝓤 (Right (r .bytes) (r .position) t))
   delta-said r t = exE 𝓤 _ (λ ws. snd∗ 𝓤 (sem 𝓤 H A (lasts delta.ended (κ, tt) (r, tt) ws)) (fact 𝓤 (Right (r .bytes) (r .position) t)))
 
-  exits : (t : Found) (u : Val) → Right s 0 t → ent 𝓤 (⋆ 𝓤 H A (‵ (S.the-row .own t (u ∷ [])) ∷ (‵ (flft κ q) ⊛ ‵ ftrue) ∷ ‵ Own ∷ [])) (Post u)
+  exits : (t : ReadCode) (u : Val) → Right s 0 t → ent 𝓤 (⋆ 𝓤 H A (‵ (S.the-row .own t (u ∷ [])) ∷ (‵ (flft κ q) ⊛ ‵ ftrue) ∷ ‵ Own ∷ [])) (Post u)
   exits t u e =
       qed W (‵ (S.the-row .own t (u ∷ [])) ∷ (‵ (flft κ q) ⊛ ‵ ftrue) ∷ ‵ Own ∷ []) ∵
       suffices ! _ (ends-at 𝓤 H A first-delta.ended stayed (first-delta.clauses 𝓤 H A mem run) W (((κ, tt), (q, tt), tt, (s, tt), (v ∷ [], tt)), tt) u t (tt, tt) (tt, tt)) $ says ! e $
@@ -135,7 +135,7 @@ module _ {M : Type 1} (𝓤 : URA M) (H : Heap 𝓤) (A : Atoms 𝓤) (W : Given
         land ! (from ! (stop !)) (init ! 3 refl (LL.lawful (T.the-type αᵉ) (T′.the-laws αᵉ) 𝓤 H A W .typed r _ is .0)) $
         use2 W (raw (Delta 𝓤 H A mem run .pre (to-delta r u))) (goes-delta r u (subst (λ (x : RefT (List ℕ)). length (now x) < 2 ^ 60) (sym (e .0)) ok)) $
         calls-at ! fm (Delta 𝓤 H A mem run) known-delta (to-delta r u) (and-then ! (load ! (from ! (stop !)) (look ! 2 refl)) (no-more !)) (λ u′.
-        use1 W (later (some (λ (t : Found). ((‵ (flft κ q) ⊛ ‵ ftrue) ⊛ ‵ (S.the-row .own t (u′ ∷ []))) ⊛ raw (ensured 𝓤 H A delta.ended (delta.clauses 𝓤 H A mem run) (κ, tt) (r, tt) tt t)))) (id⊢ 𝓤 _) $ await ! tt $ pick ! (λ t.
+        use1 W (later (some (λ (t : ReadCode). ((‵ (flft κ q) ⊛ ‵ ftrue) ⊛ ‵ (S.the-row .own t (u′ ∷ []))) ⊛ raw (ensured 𝓤 H A delta.ended (delta.clauses 𝓤 H A mem run) (κ, tt) (r, tt) tt t)))) (id⊢ 𝓤 _) $ await ! tt $ pick ! (λ t.
         split ! $ move ! (1 ∷ []) $ use1 W (raw (fact 𝓤 (Right (r .bytes) (r .position) t))) (delta-said r t) $ heard ! (Right (r .bytes) (r .position) t) (λ e′. split ! $ move ! (1 ∷ []) $
         -- [the result; the token; what s owns; _2; …; _1; …; room for _0; …]
         peeks ! S.the-row (Is S.the-row) (shows 𝓤 H A S.the-row) t (u′ ∷ []) (λ is′.

@@ -44,13 +44,13 @@ use denote.Triple.Walked.{says, needs, Stays, stay-none, walkOf, goes-none, Walk
 use denote.Exit.{yes}
 use denote.Triple.Clauses.{ensured, lasts}
 use Rattle.codec.specs.Codes.{readDelta}
-use Rattle.codec.specs.Places.{FoundAt}
+use Rattle.codec.specs.Inside.Places.{ReadCodeAt}
 use Rattle.codec.specs.declared.reader.BitReader.{BitReader}
-use Rattle.codec.specs.declared.codes.Found.{Found}
+use Rattle.codec.specs.declared.codes.ReadCode.{ReadCode}
 use Rattle.codec.proofs.reader.BitReader as T
 use Rattle.codec.proofs.reader.BitReader.Laws as T′
-use Rattle.codec.proofs.codes.Found as S
-use Rattle.codec.proofs.codes.Found.Laws as S′
+use Rattle.codec.proofs.codes.ReadCode as S
+use Rattle.codec.proofs.codes.ReadCode.Laws as S′
 use Rattle.codec.proofs.codes.read_delta as core
 use Rattle.codec.proofs.codes.read_delta.Symbol as core-def
 use Rattle.codec.proofs.codes.read_delta.Symbol.{name as #codec·codes·read-delta}
@@ -81,8 +81,8 @@ module _ {M : Type 1} (𝓤 : URA M) (H : Heap 𝓤) (A : Atoms 𝓤) (W : Given
   v = sliceVal (d .bytes .ptr) (length (d .bytes .now))
 
   -- what the contract says of the answer
-  abbrev Right : Found → Type 0
-  Right r = FoundAt readDelta (now (d .bytes)) (d .position) r
+  abbrev Right : ReadCode → Type 0
+  Right r = ReadCodeAt readDelta (now (d .bytes)) (d .position) r
 
   abbrev Post : Val → SProp 𝓤
   Post = walkOf 𝓤 H A read-delta.ended stayed (read-delta.clauses 𝓤 H A mem run) .post (((κ, tt), (q, tt), tt, (d, tt), (mach ∷ [], tt)), tt)
@@ -121,10 +121,10 @@ module _ {M : Type 1} (𝓤 : URA M) (H : Heap 𝓤) (A : Atoms 𝓤) (W : Given
       move ! (2 ∷ 0 ∷ []) $ use2 W (raw (Core 𝓤 H A mem run .pre to)) asked $ frame ! $ done !)
 
   -- of the callee's `ensured`, the clause alone: it has no `&mut`, so what is said of last values is dropped
-  said : (r : Found) → ent 𝓤 (ensured 𝓤 H A core.ended (core.clauses 𝓤 H A mem run) (κ, tt) (d .bytes, (d .position, tt)) tt r) (fact 𝓤 (Right r))
+  said : (r : ReadCode) → ent 𝓤 (ensured 𝓤 H A core.ended (core.clauses 𝓤 H A mem run) (κ, tt) (d .bytes, (d .position, tt)) tt r) (fact 𝓤 (Right r))
   said r = exE 𝓤 _ (λ ws. snd∗ 𝓤 (sem 𝓤 H A (lasts core.ended (κ, tt) (d .bytes, (d .position, tt)) ws)) (fact 𝓤 (Right r)))
 
-  exits : (r : Found) (u : Val) → Right r → ent 𝓤 (⋆ 𝓤 H A (‵ (S.the-row .own r (u ∷ [])) ∷ (‵ (flft κ q) ⊛ ‵ ftrue) ∷ ‵ Own ∷ [])) (Post u)
+  exits : (r : ReadCode) (u : Val) → Right r → ent 𝓤 (⋆ 𝓤 H A (‵ (S.the-row .own r (u ∷ [])) ∷ (‵ (flft κ q) ⊛ ‵ ftrue) ∷ ‵ Own ∷ [])) (Post u)
   exits r u e =
       qed W (‵ (S.the-row .own r (u ∷ [])) ∷ (‵ (flft κ q) ⊛ ‵ ftrue) ∷ ‵ Own ∷ []) ∵
       suffices ! _ (ends-at 𝓤 H A read-delta.ended stayed (read-delta.clauses 𝓤 H A mem run) W (((κ, tt), (q, tt), tt, (d, tt), (mach ∷ [], tt)), tt) u r (tt, tt) (tt, tt)) $ says ! e $
@@ -139,7 +139,7 @@ module _ {M : Type 1} (𝓤 : URA M) (H : Heap 𝓤) (A : Atoms 𝓤) (W : Given
         assigns ! (of-opd ! (load ! (from ! (fld ! refl (stop !))) (look-in ! 4 (sub ! 1 refl (whole !))))) (from ! (stop !)) (init ! 0 refl (tt, wt .1 .1 .0)) $
         move ! (8 ∷ []) $ use1 W (raw (Core 𝓤 H A mem run .pre to) ⊛ ‵ Own) (apart (wt .1 .1 .0 .fits)) $ split ! $
         calls-at ! fm (Core 𝓤 H A mem run) known to (and-then ! (load ! (from ! (stop !)) (look ! 4 refl)) (and-then ! (load ! (from ! (stop !)) (look ! 2 refl)) (no-more !))) (λ u.
-        use1 W (later (some (λ (r : Found). ((‵ (flft κ q) ⊛ ‵ ftrue) ⊛ ‵ (S.the-row .own r (u ∷ []))) ⊛ raw (ensured 𝓤 H A core.ended (core.clauses 𝓤 H A mem run) (κ, tt) (d .bytes, (d .position, tt)) tt r)))) (id⊢ 𝓤 _) $ await ! tt $ pick ! (λ r.
+        use1 W (later (some (λ (r : ReadCode). ((‵ (flft κ q) ⊛ ‵ ftrue) ⊛ ‵ (S.the-row .own r (u ∷ []))) ⊛ raw (ensured 𝓤 H A core.ended (core.clauses 𝓤 H A mem run) (κ, tt) (d .bytes, (d .position, tt)) tt r)))) (id⊢ 𝓤 _) $ await ! tt $ pick ! (λ r.
         split ! $ move ! (1 ∷ []) $ use1 W (raw (fact 𝓤 (Right r))) (said r) $ heard ! (Right r) (λ e. split ! $ move ! (1 ∷ []) $
         -- [the result; the token; what the struct owns; _3; …; _2; …; _1; …; room for _0; …]
         peeks ! S.the-row (Is S.the-row) (shows 𝓤 H A S.the-row) r (u ∷ []) (λ is.

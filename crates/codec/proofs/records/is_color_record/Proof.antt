@@ -1,16 +1,15 @@
 -- `codec::records::is_color_record` meets its contract.
 use Prim.Native.Nat.{ℕ, _+_, _-_, _^_, _≤_, _<_}
-use mathlib.Core.Path.{_≡_, refl, sym, ap, _∙_}
+use mathlib.Core.Path.{_≡_, sym, ap, _∙_}
 use mathlib.Core.Bool.{true, false}
-use mathlib.Core.List.{List}
 use native.Mathlib.Omega.{arith}
 use lib.ListN.{length, take, drop, length-take, length-drop}
 use denote.Ref.{now}
 use borrow.Author.Tests.{not-true, not-false}
 use Rattle.base.proofs.Tests.{when-yes, when-no}
-use Rattle.codec.specs.Prefix.{whole, readPrefix, prefixIn}
+use Rattle.codec.specs.Prefix.{whole, readPrefix, ofPrefix}
 use Rattle.codec.specs.Sets.{within, decodeSet}
-use Rattle.codec.specs.Payloads.{givesSet}
+use Rattle.codec.specs.Inside.Payloads.{givesSet}
 use Rattle.codec.specs.Records.{badColors, isRecord}
 use Rattle.codec.proofs.Laws.Prefix.{prefix-behind}
 use Rattle.codec.proofs.Laws.Records.{within-ids}
@@ -67,7 +66,7 @@ returns-3 c =
     let r = c .before .before in
     let e = r .before in
     let a = e .before .before .before .before .before .before .args in
-    sym (when-no _ _ _ (colors e) ∙ gives-refused (a .n) (now (a .ids)) (now (a .input)) (c .enum-told .given .0 .0) (sym (c .enum-told .given .1) ∙ r .read-varint-len .ensures))
+    sym (when-no _ _ _ (colors e) ∙ gives-refused (a .n) (now (a .ids)) (now (a .input)) (c .enum-told .given .0 .0) (sym (ap ofPrefix (c .enum-told .given .1)) ∙ r .read-varint-len .ensures))
 
 -- the payload's length, and the bytes behind its prefix
 prefixed : (c : tie.After-known-told)
@@ -76,7 +75,7 @@ prefixed : (c : tie.After-known-told)
 prefixed c =
     let r = c .before .before .before in
     let a = r .before .before .before .before .before .before .before .args in
-    prefix-behind (now (a .input)) (c .before .value .given .0 .0) (c .before .value .given .0 .1 .0) (sym (c .before .value .given .1) ∙ r .read-varint-len .ensures)
+    prefix-behind (now (a .input)) (c .before .value .given .0 .0) (c .before .value .given .0 .1 .0) (sym (ap ofPrefix (c .before .value .given .1)) ∙ r .read-varint-len .ensures)
 
 cast-value : tie.Need-cast-value
 cast-value c = search needs

@@ -1,6 +1,4 @@
 -- `codec::passed_up` meets its contract.
-use mathlib.Core.Path.{_≡_, sym, ap}
-use Rattle.codec.specs.Records.{upOf}
 use borrow.Author.Needs.{needs}
 use Rattle.codec.proofs.records.passed_up.Statement.{statement}
 use Rattle.codec.proofs.records.passed_up.Tie as tie

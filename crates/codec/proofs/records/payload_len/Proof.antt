@@ -1,6 +1,5 @@
 -- `codec::records::payload_len` meets its contract.
 use mathlib.Core.Path.{sym, ap, _∙_}
-use native.Mathlib.Omega.{arith}
 use denote.Ref.{now}
 use Rattle.codec.specs.Bits.{bytesFor}
 use Rattle.codec.proofs.Laws.Sizes.{length-payload}

@@ -5,7 +5,8 @@ use denote.Ref.{now}
 use Rattle.base.specs.Answers.{ofGiven}
 use Rattle.base.specs.declared.Given.{Given}
 use Rattle.base.proofs.Bools.{via}
-use Rattle.codec.specs.Records.{upOf}
+use Rattle.codec.specs.Prefix.{ofPrefix}
+use Rattle.codec.specs.Inside.Prefixes.{upGiven}
 use Rattle.codec.proofs.Laws.Prefix.{prefix-behind}
 use Rattle.codec.proofs.Laws.Reading.{read-refused, read-up, read-whole}
 use Rattle.codec.proofs.Laws.Encoded.{good-colors}
@@ -37,7 +38,7 @@ returns-2 : tie.Need-returns-2
 returns-2 c =
     let start = c .before .before .before .before .before .before .before .before in
     let told = c .before .enum-told .given .1 in
-    ap (λ (g : Given). (ofGiven g, now (start .args .ids))) (c .passed-up .ensures ∙ ap upOf told) ∙ read-up (start .args .n) (now (start .args .input)) (now (start .args .ids)) (via (c .before .before .before .before .before .bad-colors .ensures) (c .before .before .before .before .if1 .left)) _ (via told (c .before .before .before .read-varint-len .ensures))
+    ap (λ (g : Given). (ofGiven g, now (start .args .ids))) (c .passed-up .ensures ∙ ap upGiven told) ∙ read-up (start .args .n) (now (start .args .input)) (now (start .args .ids)) (via (c .before .before .before .before .before .bad-colors .ensures) (c .before .before .before .before .if1 .left)) (c .before .enum-told .given .0 .0) (via (ap ofPrefix told) (c .before .before .before .read-varint-len .ensures))
 
 cast-read-payload : tie.Need-cast-read-payload
 cast-read-payload c = search needs
@@ -45,7 +46,7 @@ cast-read-payload c = search needs
 read-payload-requires : tie.Need-read-payload-requires
 read-payload-requires c κs =
     let start = c .before .before .before .before .before .before .before .before .before in
-    let b = prefix-behind (now (start .args .input)) _ _ (via (c .before .before .prefix .given .1) (c .before .before .before .before .read-varint-len .ensures)) in
+    let b = prefix-behind (now (start .args .input)) _ _ (via (ap ofPrefix (c .before .before .prefix .given .1)) (c .before .before .before .before .read-varint-len .ensures)) in
     (b .1, omega (arith, b .2), good-colors (start .args .n) (via (c .before .before .before .before .before .before .bad-colors .ensures) (c .before .before .before .before .before .if1 .left)) .1)
 
 same-length : tie.Need-same-length
@@ -54,7 +55,7 @@ same-length c = search needs
 returns-3 : tie.Need-returns-3
 returns-3 c =
     let start = c .before .before .before .before .before .before .before .before .before .before .before .before in
-    let b = prefix-behind (now (start .args .input)) _ _ (via (c .before .before .before .before .before .prefix .given .1) (c .before .before .before .before .before .before .before .read-varint-len .ensures)) in
+    let b = prefix-behind (now (start .args .input)) _ _ (via (ap ofPrefix (c .before .before .before .before .before .prefix .given .1)) (c .before .before .before .before .before .before .before .read-varint-len .ensures)) in
     c .before .before .read-payload .ensures ∙ read-whole (start .args .n) (now (start .args .input)) (now (start .args .ids)) (via (c .before .before .before .before .before .before .before .before .before .bad-colors .ensures) (c .before .before .before .before .before .before .before .before .if1 .left)) (c .before .before .before .before .before .prefix .given .0 .0) (c .before .before .before .before .before .prefix .given .0 .1 .0) (b .0)
 
 pub read-color-record-spec : {M : Type 1} → statement M

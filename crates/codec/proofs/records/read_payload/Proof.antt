@@ -1,5 +1,4 @@
 -- `records::read_payload` meets its contract.
-use native.Mathlib.Omega.{arith}
 use denote.Ref.{now}
 use Rattle.codec.proofs.Laws.Reading.{payload-cut}
 use borrow.Author.Needs.{needs}

@@ -5,7 +5,7 @@ use denote.Ref.{now}
 use mathlib.Core.List.{List}
 use native.Mathlib.Omega.{arith}
 use lib.ListN.{length, take, drop}
-use Rattle.codec.specs.Payloads.{PayloadOf, KeptOf}
+use Rattle.codec.specs.Inside.Payloads.{PayloadOf, KeptOf}
 use Rattle.codec.specs.declared.sets.Payload.{Payload}
 use Rattle.codec.specs.declared.sets.Payload.the-variants.{Ids}
 use Rattle.codec.proofs.Laws.Reading.{payload-damaged, payload-space, payload-done}

@@ -1,6 +1,6 @@
 -- `codec::records::write_color_record` meets its contract.
 use Prim.Native.Nat.{ℕ, _+_, _≤_, _<_}
-use mathlib.Core.Path.{_≡_, refl, sym, ap, ap₂, _∙_}
+use mathlib.Core.Path.{_≡_, sym, ap, ap₂, _∙_}
 use mathlib.Core.Bool.{true, false}
 use mathlib.Core.List.{List, [], _∷_}
 use native.Mathlib.Omega.{arith}
@@ -8,7 +8,7 @@ use lib.Dec.{ltb, leb}
 use lib.ListN.{length}
 use denote.Ref.{now}
 use borrow.Author.Tests.{lt-ltb, le-ltb, ltb-true, leb-true, not-true, not-false}
-use Rattle.base.specs.Answers.{Answer, done}
+use Rattle.base.specs.Answers.{done}
 use Rattle.base.proofs.Tests.{when-yes, when-no}
 use Rattle.base.proofs.Bools.{and-true, not-yes, not-no}
 use Rattle.codec.specs.Records.{badColors, recordOf, writeRecord}

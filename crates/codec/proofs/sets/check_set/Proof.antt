@@ -6,10 +6,10 @@ use denote.Ref.{now}
 use lib.ListN.{drop}
 use Rattle.codec.specs.Bits.{bitsOf}
 use Rattle.codec.specs.Codes.{readDelta}
-use Rattle.codec.specs.Places.{FoundAt}
+use Rattle.codec.specs.Inside.Places.{ReadCodeAt}
 use Rattle.codec.specs.Sets.{regime, readBody}
-use Rattle.codec.specs.Gaps.{IdsAt}
-use Rattle.codec.specs.declared.codes.Found.the-variants.{Value}
+use Rattle.codec.specs.Inside.Gaps.{IdsAt}
+use Rattle.codec.specs.declared.codes.ReadCode.the-variants.{Value}
 use Rattle.codec.specs.declared.gaps.Checked.{Checked}
 use Rattle.codec.specs.declared.gaps.Checked.the-variants.{Good}
 use Rattle.codec.proofs.Laws.Decoding.{no-length, no-body, padded-body, body-count}
@@ -27,8 +27,8 @@ enum-told : tie.Need-enum-told
 enum-told c = search needs
 
 -- the number of ids, and the ids
-length-at : (c : tie.After-known-told) → FoundAt readDelta (now (c .before .before .before .before .before .before .args .payload)) 0 (Value (c .before .value .given .0 .0) (c .before .value .given .0 .1 .0))
-length-at c = subst (FoundAt readDelta (now (c .before .before .before .before .before .before .args .payload)) 0) (c .before .value .given .1) (c .before .before .before .first-delta .ensures)
+length-at : (c : tie.After-known-told) → ReadCodeAt readDelta (now (c .before .before .before .before .before .before .args .payload)) 0 (Value (c .before .value .given .0 .0) (c .before .value .given .0 .1 .0))
+length-at c = subst (ReadCodeAt readDelta (now (c .before .before .before .before .before .before .args .payload)) 0) (c .before .value .given .1) (c .before .before .before .first-delta .ensures)
 
 abbrev BodyAt : (c : tie.After-known-told) → Checked → Type 0
 BodyAt c =
@@ -42,7 +42,7 @@ body c = subst (BodyAt (c .before .before .before .before .before .before .befor
 returns : tie.Need-returns
 returns c =
     let start = c .before .before .before .before .before in
-    (no-length (start .args .n) (now (start .args .payload)) (start .pre .1) (subst (FoundAt readDelta (now (start .args .payload)) 0) (c .enum-told .given .1) (c .before .before .first-delta .ensures)), tt)
+    (no-length (start .args .n) (now (start .args .payload)) (start .pre .1) (subst (ReadCodeAt readDelta (now (start .args .payload)) 0) (c .enum-told .given .1) (c .before .before .first-delta .ensures)), tt)
 
 cast-check-body : tie.Need-cast-check-body
 cast-check-body c = search needs

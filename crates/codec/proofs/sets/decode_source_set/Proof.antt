@@ -7,7 +7,7 @@ use denote.Ref.{now}
 use lib.ListN.{length, drop, length-drop}
 use Rattle.codec.specs.Bits.{bitsOf}
 use Rattle.codec.specs.Sets.{absent, ReadIds}
-use Rattle.codec.specs.Gaps.{idsIn}
+use Rattle.codec.specs.Inside.Gaps.{idsIn}
 use Rattle.codec.specs.declared.sets.Kind.the-variants.{Empty, Sparse, Bitmap, Dense}
 use Rattle.codec.proofs.Laws.Low.{length-bits}
 use Rattle.codec.proofs.Laws.Filled.{over-none}

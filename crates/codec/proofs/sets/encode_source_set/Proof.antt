@@ -1,14 +1,11 @@
 -- `codec::sets::encode_source_set` meets its contract.
-use Prim.Native.Nat.{ℕ, _+_, _≤_}
-use mathlib.Core.Path.{_≡_, refl, sym, ap, _∙_, subst}
-use mathlib.Core.Bool.{Bool}
-use mathlib.Core.List.{List, _++_}
+use mathlib.Core.Path.{refl}
 use native.Mathlib.Omega.{arith}
-use lib.ListN.{length, length-append}
+use lib.ListN.{length}
 use denote.Ref.{now}
 use Rattle.codec.specs.Codes.{delta}
 use Rattle.codec.specs.Sets.{regime, bodyBits, setBits}
-use Rattle.codec.specs.Writers.{Ready, Wrote}
+use Rattle.codec.specs.Inside.Writers.{Wrote}
 use Rattle.codec.specs.declared.bits.BitWriter.{BitWriter}
 use Rattle.codec.proofs.Laws.Encoded.{few-ids, set-length, ready-front, encoded}
 use Rattle.codec.proofs.Laws.Writers.{wrote-none, wrote-then, ready-after}

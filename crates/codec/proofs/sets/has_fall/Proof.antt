@@ -1,11 +1,11 @@
 -- `codec::has_fall` meets its contract. The loop's invariant: what was found, or a fall further on.
-use Prim.Native.Nat.{ℕ, _+_, _-_, _*_, _≤_, _<_}
+use Prim.Native.Nat.{_+_, _-_, _≤_, _<_}
 use mathlib.Core.Path.{_≡_, refl, sym, ap, _∙_}
 use mathlib.Core.Bool.{Bool, true, false, _||_}
 use native.Mathlib.Omega.{arith}
 use lib.ListN.{length, drop, getD}
 use denote.Ref.{now}
-use Rattle.codec.specs.Payloads.{falls}
+use Rattle.codec.specs.Inside.Payloads.{hasFall}
 use Rattle.codec.proofs.Laws.Ascending.{falls-next, falls-end}
 use Rattle.codec.proofs.sets.has_fall.Statement.{statement}
 use Rattle.codec.proofs.sets.has_fall.Tie as tie
@@ -21,7 +21,7 @@ or-none true = refl
 or-none false = refl
 
 abbrev Inv-loop : tie.InvT-loop
-Inv-loop ids found₀ i₀ found i = (0 < i) × (i ≤ length ids) × ((falls (getD ids 0 0) (drop 1 ids)) ≡ (found || falls (getD ids (i - 1) 0) (drop i ids)))
+Inv-loop ids found₀ i₀ found i = (0 < i) × (i ≤ length ids) × ((hasFall (getD ids 0 0) (drop 1 ids)) ≡ (found || hasFall (getD ids (i - 1) 0) (drop i ids)))
 
 abbrev μ-loop : tie.MeasureT-loop
 μ-loop ids found₀ i₀ found i = length ids - i

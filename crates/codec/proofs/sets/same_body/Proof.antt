@@ -1,14 +1,10 @@
 -- `codec::sets::same_body` meets its contract.
-use Prim.Native.Nat.{ℕ}
-use mathlib.Core.Path.{_≡_, refl, sym, ap, _∙_, subst}
+use mathlib.Core.Path.{refl, ap, subst}
 use mathlib.Core.Bool.{Bool}
-use mathlib.Core.List.{List, [], _++_}
-use native.Mathlib.Omega.{arith}
-use lib.ListN.{drop}
+use mathlib.Core.List.{List}
 use denote.Ref.{now}
-use Rattle.codec.specs.Bits.{bitsOf}
-use Rattle.codec.specs.Gaps.{BitsAt}
-use Rattle.codec.specs.declared.gaps.Checked.the-variants.{Good, Bad}
+use Rattle.codec.specs.Inside.Gaps.{BitsAt}
+use Rattle.codec.specs.declared.gaps.Checked.the-variants.{Good}
 use Rattle.codec.proofs.Laws.Encoded.{body-empty, body-sparse, body-bitmap, body-dense}
 use borrow.Author.Needs.{needs}
 use Rattle.codec.proofs.sets.same_body.Statement.{statement}

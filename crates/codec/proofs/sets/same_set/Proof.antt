@@ -1,18 +1,18 @@
 -- `codec::sets::same_set` meets its contract.
-use Prim.Native.Nat.{ℕ, _+_, _*_, _≤_, _<_}
-use mathlib.Core.Path.{_≡_, refl, sym, ap, _∙_, subst}
+use Prim.Native.Nat.{ℕ}
+use mathlib.Core.Path.{_≡_, sym, ap, _∙_, subst}
 use mathlib.Core.Bool.{Bool}
-use mathlib.Core.List.{List, _++_}
+use mathlib.Core.List.{List}
 use native.Mathlib.Omega.{arith}
 use lib.ListN.{length, drop}
 use denote.Ref.{now}
 use Rattle.codec.specs.Bits.{bitsOf}
 use Rattle.codec.specs.Codes.{Read, got, readDelta}
-use Rattle.codec.specs.Places.{FoundAt}
+use Rattle.codec.specs.Inside.Places.{ReadCodeAt}
 use Rattle.codec.specs.Sets.{regime, bodyBits, decodeSet}
-use Rattle.codec.specs.Gaps.{BitsAt}
-use Rattle.codec.specs.declared.codes.Found.the-variants.{Value, Missing}
-use Rattle.codec.specs.declared.gaps.Checked.the-variants.{Good, Bad}
+use Rattle.codec.specs.Inside.Gaps.{BitsAt}
+use Rattle.codec.specs.declared.codes.ReadCode.the-variants.{Value}
+use Rattle.codec.specs.declared.gaps.Checked.the-variants.{Good}
 use Rattle.codec.proofs.Laws.Encoded.{few-ids}
 use Rattle.codec.proofs.Laws.Compared.{gives-other, set-begins, gives-same}
 use borrow.Author.Needs.{needs}
@@ -45,16 +45,16 @@ returns c =
     let d = c .before .before in
     let start = d .before .before .before in
     let a = start .args in
-    let none-here = subst (FoundAt readDelta (now (a .payload)) 0) (c .enum-told .given .1) (d .first-delta .ensures) in
+    let none-here = subst (ReadCodeAt readDelta (now (a .payload)) 0) (c .enum-told .given .1) (d .first-delta .ensures) in
     sym (gives-other (decodeSet (a .n) (now (a .payload))) (now (a .ids)) (λ e.
     let b = set-begins (a .n) (now (a .ids)) (now (a .payload)) e in
     omega (arith, none-here _ _ (b .1), few-ids (a .n) (now (a .ids)) (start .pre .0))))
 
 -- the number of ids that the payload says
-found : (c : tie.After-known-told) → FoundAt readDelta (now (c .before .before .before .before .before .before .args .payload)) 0 (Value (c .before .value .given .0 .0) (c .before .value .given .0 .1 .0))
+found : (c : tie.After-known-told) → ReadCodeAt readDelta (now (c .before .before .before .before .before .before .args .payload)) 0 (Value (c .before .value .given .0 .0) (c .before .value .given .0 .1 .0))
 found c =
     let d = c .before .before .before in
-    subst (FoundAt readDelta (now (d .before .before .before .args .payload)) 0) (c .before .value .given .1) (d .first-delta .ensures)
+    subst (ReadCodeAt readDelta (now (d .before .before .before .args .payload)) 0) (c .before .value .given .1) (d .first-delta .ensures)
 
 cast-if1 : tie.Need-cast-if1
 cast-if1 c = search needs

@@ -1,10 +1,8 @@
 -- `codec::sets::write_body` meets its contract.
-use Prim.Native.Nat.{ℕ}
-use mathlib.Core.Path.{_≡_, sym, ap, _∙_, subst}
-use native.Mathlib.Omega.{arith}
+use mathlib.Core.Path.{sym, ap, _∙_, subst}
 use lib.ListN.{length}
 use denote.Ref.{now}
-use Rattle.codec.specs.Writers.{Ready, Wrote}
+use Rattle.codec.specs.Inside.Writers.{Ready, Wrote}
 use Rattle.codec.proofs.Laws.Sets.{length-mapBits}
 use Rattle.codec.proofs.Laws.Encoded.{body-empty, body-sparse, body-bitmap, body-dense}
 use Rattle.codec.proofs.Laws.Writers.{wrote-none}

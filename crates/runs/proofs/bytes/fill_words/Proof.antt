@@ -23,14 +23,14 @@ abbrev μ-loop : tie.MeasureT-loop
 loop-holds : tie.Need-loop-holds Inv-loop μ-loop
 loop-holds c = (omega arith, fill-none _ _)
 
-mul-word-at : tie.Need-mul-word-at Inv-loop μ-loop
-mul-word-at c = search needs
+mul-run-word : tie.Need-mul-run-word Inv-loop μ-loop
+mul-run-word c = search needs
 
-add-word-at : tie.Need-add-word-at Inv-loop μ-loop
-add-word-at c = search needs
+add-run-word : tie.Need-add-run-word Inv-loop μ-loop
+add-run-word c = search needs
 
-word-at-requires : tie.Need-word-at-requires Inv-loop μ-loop
-word-at-requires c κs = search needs
+run-word-requires : tie.Need-run-word-requires Inv-loop μ-loop
+run-word-requires c κs = search needs
 
 mul-out : tie.Need-mul-out Inv-loop μ-loop
 mul-out c = search needs
@@ -52,7 +52,7 @@ loop-again c =
     let bs = now (start .args .bytes) in
     let n = start .args .count in
     let i = l .loop .i in
-    let w : c .word-at .result ≡ getD (words n (drop at bs)) i 0 = c .word-at .ensures ∙ ap (λ (x : List ℕ). leValue (take 8 x)) (sym (drop-drop (8 * i) at bs)) ∙ sym (word-is n (drop at bs) i (omega arith)) in
+    let w : c .run-word .result ≡ getD (words n (drop at bs)) i 0 = c .run-word .ensures ∙ ap (λ (x : List ℕ). leValue (take 8 x)) (sym (drop-drop (8 * i) at bs)) ∙ sym (word-is n (drop at bs) i (omega arith)) in
     (omega arith, fill-more _ _ _ i _ 0 (omega (arith, length-words n (drop at bs))) (omega (arith, l .loop .inv .1 .long)) w (l .loop .inv .1))
 
 same-length : tie.Need-same-length Inv-loop μ-loop
@@ -71,9 +71,9 @@ fill-words-spec =
     Inv-loop
     μ-loop
     loop-holds
-    mul-word-at
-    add-word-at
-    word-at-requires
+    mul-run-word
+    add-run-word
+    run-word-requires
     mul-out
     slice-write-out
     add-i

@@ -24,14 +24,14 @@ abbrev μ-loop : tie.MeasureT-loop
 loop-holds : tie.Need-loop-holds Inv-loop μ-loop
 loop-holds c = (omega arith, refl)
 
-mul-word-at : tie.Need-mul-word-at Inv-loop μ-loop
-mul-word-at c = search needs
+mul-run-word : tie.Need-mul-run-word Inv-loop μ-loop
+mul-run-word c = search needs
 
-add-word-at : tie.Need-add-word-at Inv-loop μ-loop
-add-word-at c = search needs
+add-run-word : tie.Need-add-run-word Inv-loop μ-loop
+add-run-word c = search needs
 
-word-at-requires : tie.Need-word-at-requires Inv-loop μ-loop
-word-at-requires c κs = search needs
+run-word-requires : tie.Need-run-word-requires Inv-loop μ-loop
+run-word-requires c κs = search needs
 
 offset-requires : tie.Need-offset-requires Inv-loop μ-loop
 offset-requires c κs = search needs
@@ -41,7 +41,7 @@ returns c =
     let l = c .before .before .before .before in
     let start = l .before .before in
     let ws = words (start .args .count) (drop (start .args .at) (now (start .args .bytes))) in
-    let w = word-there (now (start .args .bytes)) (start .args .at) (start .args .count) (l .loop .i) _ (omega arith) (c .before .before .word-at .ensures) in
+    let w = word-there (now (start .args .bytes)) (start .args .at) (start .args .count) (l .loop .i) _ (omega arith) (c .before .before .run-word .ensures) in
     let o : start .args .vertex < offset (getD ws (l .loop .i) 0) = omega (arith, c .if1 .taken, c .before .offset .ensures, ap offset w) in
     sym (l .loop .inv .1 ∙ colour-stop (l .loop .c) (start .args .vertex) (l .loop .i) ws (omega (arith, length-words (start .args .count) (drop (start .args .at) (now (start .args .bytes))))) o)
 
@@ -59,7 +59,7 @@ loop-again c =
     let l = c .before .before .before .before .before in
     let start = l .before .before in
     let ws = words (start .args .count) (drop (start .args .at) (now (start .args .bytes))) in
-    let w = word-there (now (start .args .bytes)) (start .args .at) (start .args .count) (l .loop .i) _ (omega arith) (c .before .before .before .word-at .ensures) in
+    let w = word-there (now (start .args .bytes)) (start .args .at) (start .args .count) (l .loop .i) _ (omega arith) (c .before .before .before .run-word .ensures) in
     let o : offset (getD ws (l .loop .i) 0) ≤ start .args .vertex = omega (arith, c .before .if1 .left, c .before .before .offset .ensures, ap offset w) in
     (omega arith, l .loop .inv .1 ∙ colour-step (l .loop .c) (start .args .vertex) (l .loop .i) ws (omega (arith, length-words (start .args .count) (drop (start .args .at) (now (start .args .bytes))))) o ∙ ap (λ (x : ℕ). colourFrom x (start .args .vertex) (drop (l .loop .i + 1) ws)) (sym (c .coordinate .ensures .0 ∙ ap coordinate w)))
 
@@ -76,9 +76,9 @@ find-color-spec =
     Inv-loop
     μ-loop
     loop-holds
-    mul-word-at
-    add-word-at
-    word-at-requires
+    mul-run-word
+    add-run-word
+    run-word-requires
     offset-requires
     returns
     coordinate-requires

@@ -8,7 +8,7 @@ use borrow.Author.Needs.{needs}
 use Rattle.base.specs.Parts.{over}
 use Rattle.codec.specs.Prefix.{prefixOf}
 use Rattle.runs.specs.Reverse.{oriented}
-use Rattle.runs.specs.Cursor.{ahead}
+use Rattle.runs.specs.Inside.Cursor.{runsFromStep}
 use Rattle.runs.proofs.Laws.Bytes.{room, wrote, counted}
 use Rattle.runs.proofs.bytes.write_turned.Statement.{statement}
 use Rattle.runs.proofs.bytes.write_turned.Tie as tie
@@ -39,7 +39,7 @@ fill-turned-bytes-requires c κs =
     let start = c .before .before .before .before .before .before .before .before in
     let w = c .before .before .before in
     let q = c .before .before .before .before .before .varint-len .ensures .0 in
-    let ws = ahead (start .args .n) (start .args .p) (oriented (start .args .reversed) (start .args .n) (now (start .args .runs))) 0 0 in
+    let ws = runsFromStep (start .args .n) (start .args .p) (oriented (start .args .reversed) (start .args .n) (now (start .args .runs))) 0 0 in
     let cnt : start .args .count ≡ length ws = start .pre .1 in
     let m = counted (start .args .count) _ (now (start .args .out)) (w .write-varint .last .1 .0) (omega (arith, start .pre .0 .3)) (w .write-varint .ensures) in
     let space = room ws (now (start .args .out)) _ _ (q ∙ ap (λ (k : ℕ). length (prefixOf k)) cnt) (m ∙ ap (λ (k : ℕ). over (prefixOf k) (now (start .args .out))) cnt) (omega (arith, q, cnt, start .pre .0 .3)) in
@@ -54,7 +54,7 @@ returns c =
     let w = f .before .before .before .before in
     let start = w .before .before .before .before .before in
     let q = w .before .before .varint-len .ensures .0 in
-    let ws = ahead (start .args .n) (start .args .p) (oriented (start .args .reversed) (start .args .n) (now (start .args .runs))) 0 0 in
+    let ws = runsFromStep (start .args .n) (start .args .p) (oriented (start .args .reversed) (start .args .n) (now (start .args .runs))) 0 0 in
     let cnt : start .args .count ≡ length ws = start .pre .1 in
     let m = counted (start .args .count) _ (now (start .args .out)) (w .write-varint .last .1 .0) (omega (arith, start .pre .0 .3)) (w .write-varint .ensures) in
     wrote ws (now (start .args .out)) _ _ (q ∙ ap (λ (k : ℕ). length (prefixOf k)) cnt) (m ∙ ap (λ (k : ℕ). over (prefixOf k) (now (start .args .out))) cnt) _ (f .fill-turned-bytes .ensures)

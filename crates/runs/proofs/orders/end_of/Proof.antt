@@ -8,7 +8,7 @@ use lib.ListN.{getD, drop-of-length-le}
 use borrow.Author.Needs.{needs}
 use Rattle.runs.specs.Words.{offset}
 use Rattle.runs.specs.Colours.{next}
-use Rattle.runs.proofs.Laws.Orders.{begins as begins-at}
+use Rattle.runs.proofs.Laws.Orders.{run-begins as begins-at}
 use Rattle.runs.proofs.orders.end_of.Statement.{statement}
 use Rattle.runs.proofs.orders.end_of.Tie as tie
 

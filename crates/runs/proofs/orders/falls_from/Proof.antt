@@ -4,7 +4,7 @@ use mathlib.Core.Path.{_≡_}
 use native.Mathlib.Omega.{arith}
 use lib.ListN.{length}
 use borrow.Author.Needs.{needs}
-use Rattle.runs.specs.Orders.{falls}
+use Rattle.runs.specs.Inside.Falls.{falls}
 use Rattle.runs.proofs.Laws.Falls.{falls-none, falls-next, falls-end}
 use Rattle.runs.proofs.orders.falls_from.Statement.{statement}
 use Rattle.runs.proofs.orders.falls_from.Tie as tie

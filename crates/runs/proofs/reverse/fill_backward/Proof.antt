@@ -1,5 +1,5 @@
 -- `runs::reverse::fill_backward` meets its contract.
-use Prim.Native.Nat.{ℕ, _+_, _-_, _≤_}
+use Prim.Native.Nat.{_+_, _-_, _≤_}
 use mathlib.Core.Path.{_≡_, refl}
 use native.Mathlib.Omega.{arith}
 use denote.Ref.{now}
@@ -33,32 +33,32 @@ loop-holds c = (refl, refl, omega arith, fill-none _ _)
 add-loop : tie.Need-add-loop Inv-loop μ-loop
 add-loop c = search needs
 
-sub-turned : tie.Need-sub-turned Inv-loop μ-loop
-sub-turned c = search needs
+sub-backed : tie.Need-sub-backed Inv-loop μ-loop
+sub-backed c = search needs
 
-sub-turned-2 : tie.Need-sub-turned-2 Inv-loop μ-loop
-sub-turned-2 c = search needs
+sub-backed-2 : tie.Need-sub-backed-2 Inv-loop μ-loop
+sub-backed-2 c = search needs
 
-mul-turned : tie.Need-mul-turned Inv-loop μ-loop
-mul-turned c = search needs
+mul-backed : tie.Need-mul-backed Inv-loop μ-loop
+mul-backed c = search needs
 
-shared-slice-read-turned : tie.Need-shared-slice-read-turned Inv-loop μ-loop
-shared-slice-read-turned c = search needs
+shared-slice-read-backed : tie.Need-shared-slice-read-backed Inv-loop μ-loop
+shared-slice-read-backed c = search needs
 
-sub-turned-3 : tie.Need-sub-turned-3 Inv-loop μ-loop
-sub-turned-3 c = search needs
+sub-backed-3 : tie.Need-sub-backed-3 Inv-loop μ-loop
+sub-backed-3 c = search needs
 
-sub-turned-4 : tie.Need-sub-turned-4 Inv-loop μ-loop
-sub-turned-4 c = search needs
+sub-backed-4 : tie.Need-sub-backed-4 Inv-loop μ-loop
+sub-backed-4 c = search needs
 
-mul-turned-2 : tie.Need-mul-turned-2 Inv-loop μ-loop
-mul-turned-2 c = search needs
+mul-backed-2 : tie.Need-mul-backed-2 Inv-loop μ-loop
+mul-backed-2 c = search needs
 
-shared-slice-read-turned-2 : tie.Need-shared-slice-read-turned-2 Inv-loop μ-loop
-shared-slice-read-turned-2 c = search needs
+shared-slice-read-backed-2 : tie.Need-shared-slice-read-backed-2 Inv-loop μ-loop
+shared-slice-read-backed-2 c = search needs
 
-turned-requires : tie.Need-turned-requires Inv-loop μ-loop
-turned-requires c κs =
+backed-requires : tie.Need-backed-requires Inv-loop μ-loop
+backed-requires c κs =
     let l = c .before .before .before in
     let start = l .before .before .before in
     let ws = now (start .args .runs) in
@@ -80,7 +80,7 @@ loop-again : tie.Need-loop-again Inv-loop μ-loop
 loop-again c =
     let l = c .before .before .before .before in
     let start = l .before .before .before in
-    (refl, refl, omega arith, backward-more _ _ _ (start .pre .0) _ _ _ (l .loop .inv .3) _ _ (omega arith) (omega (arith, l .loop .inv .3 .long)) refl (c .turned .ensures))
+    (refl, refl, omega arith, backward-more _ _ _ (start .pre .0) _ _ _ (l .loop .inv .3) _ _ (omega arith) (omega (arith, l .loop .inv .3 .long)) refl (c .backed .ensures))
 
 same-length : tie.Need-same-length Inv-loop μ-loop
 same-length c = search needs
@@ -102,15 +102,15 @@ fill-backward-spec =
     cast-top
     loop-holds
     add-loop
-    sub-turned
-    sub-turned-2
-    mul-turned
-    shared-slice-read-turned
-    sub-turned-3
-    sub-turned-4
-    mul-turned-2
-    shared-slice-read-turned-2
-    turned-requires
+    sub-backed
+    sub-backed-2
+    mul-backed
+    shared-slice-read-backed
+    sub-backed-3
+    sub-backed-4
+    mul-backed-2
+    shared-slice-read-backed-2
+    backed-requires
     mul-out
     slice-write-out
     add-i

@@ -1,5 +1,4 @@
 -- `runs::reverse::put_front` meets its contract.
-use denote.Ref.{now}
 use borrow.Author.Needs.{needs}
 use Rattle.runs.proofs.Laws.Fill.{front-is}
 use Rattle.runs.proofs.reverse.put_front.Statement.{statement}

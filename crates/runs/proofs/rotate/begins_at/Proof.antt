@@ -1,6 +1,6 @@
 -- `runs::rotate::begins_at` meets its contract.
 use borrow.Author.Tests.{eq-eqb, ne-eqb}
-use Rattle.runs.specs.Cursor.{begins}
+use Rattle.runs.specs.Inside.Cursor.{begins}
 use Rattle.runs.proofs.Laws.Orders.{taken}
 use Rattle.runs.proofs.rotate.begins_at.Statement.{statement}
 use Rattle.runs.proofs.rotate.begins_at.Tie as tie

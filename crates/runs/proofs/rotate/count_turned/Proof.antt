@@ -7,7 +7,7 @@ use denote.Ref.{now}
 use lib.ListN.{length}
 use borrow.Author.Needs.{needs}
 use Rattle.runs.specs.Reverse.{oriented}
-use Rattle.runs.specs.Cursor.{ahead}
+use Rattle.runs.specs.Inside.Cursor.{runsFromStep}
 use Rattle.runs.proofs.Laws.Reverse.{oriented-long, oriented-steady}
 use Rattle.runs.proofs.Laws.Cursor.{at-end, one-more}
 use Rattle.runs.proofs.rotate.count_turned.Statement.{statement}
@@ -15,7 +15,7 @@ use Rattle.runs.proofs.rotate.count_turned.Tie as tie
 
 abbrev Inv-loop : tie.InvT-loop
 Inv-loop runs n p reversed m j₀ colour₀ k₀ j colour k =
-    (j ≤ length runs + length runs) × (length (ahead n p (oriented reversed n runs) 0 0) ≡ k + length (ahead n p (oriented reversed n runs) j colour)) × (k ≤ j)
+    (j ≤ length runs + length runs) × (length (runsFromStep n p (oriented reversed n runs) 0 0) ≡ k + length (runsFromStep n p (oriented reversed n runs) j colour)) × (k ≤ j)
 
 abbrev μ-loop : tie.MeasureT-loop
 μ-loop runs n p reversed m j₀ colour₀ k₀ j colour k = length runs + length runs - j
@@ -77,8 +77,8 @@ loop-again c =
     let r = c .before .before .next-step .result in
     let more : r < length os + length os = omega arith in
     let one = one-more n p os s (start .pre .1) (l .loop .j) (l .loop .colour) r e more in
-    let hued = ap (λ (x : ℕ). length (ahead n p os (r + 1) x)) (c .part-at .ensures .hued) in
-    (omega arith, omega (arith, l .loop .inv .1, one, hued), omega (arith, l .loop .inv .2, e .from))
+    let coloured = ap (λ (x : ℕ). length (runsFromStep n p os (r + 1) x)) (c .part-at .ensures .coloured) in
+    (omega arith, omega (arith, l .loop .inv .1, one, coloured), omega (arith, l .loop .inv .2, e .from))
 
 pub count-turned-spec : {M : Type 1} → statement M
 count-turned-spec =

@@ -7,7 +7,7 @@ use lib.ListN.{length, drop}
 use borrow.Author.Needs.{needs}
 use Rattle.runs.specs.Words.{pack}
 use Rattle.runs.specs.Reverse.{oriented}
-use Rattle.runs.specs.Cursor.{ahead}
+use Rattle.runs.specs.Inside.Cursor.{runsFromStep}
 use Rattle.runs.proofs.Laws.Lists.{Filled, fill-none, fill-more, fill-end}
 use Rattle.runs.proofs.Laws.Reverse.{oriented-long, oriented-steady}
 use Rattle.runs.proofs.Laws.Cursor.{goes, run-is, rest-is, run-small}
@@ -16,7 +16,7 @@ use Rattle.runs.proofs.rotate.fill_turned.Tie as tie
 
 abbrev Inv-loop : tie.InvT-loop
 Inv-loop runs n p reversed count out₀ j₀ colour₀ i₀ out j colour i =
-    (j ≤ length runs + length runs) × (drop i (ahead n p (oriented reversed n runs) 0 0) ≡ ahead n p (oriented reversed n runs) j colour) × (i ≤ count) × Filled (ahead n p (oriented reversed n runs) 0 0) out₀ out i
+    (j ≤ length runs + length runs) × (drop i (runsFromStep n p (oriented reversed n runs) 0 0) ≡ runsFromStep n p (oriented reversed n runs) j colour) × (i ≤ count) × Filled (runsFromStep n p (oriented reversed n runs) 0 0) out₀ out i
 
 abbrev μ-loop : tie.MeasureT-loop
 μ-loop runs n p reversed count out₀ j₀ colour₀ i₀ out j colour i = count - i
@@ -37,7 +37,7 @@ part-at-requires c κs =
     let s = oriented-steady (start .args .reversed) n ws (start .pre .0 .0 .small) (start .pre .0 .0 .list) in
     let long : length os ≡ length ws = oriented-long (start .args .reversed) n ws in
     let l = c .before .before in
-    (start .pre .0 .0, start .pre .0 .1, omega (arith, goes n p os s (start .pre .0 .1) (l .loop .j) (l .loop .colour) _ (c .next-step .ensures) (ahead n p os 0 0) (l .loop .i) (l .loop .inv .1) (omega (arith, start .pre .1))))
+    (start .pre .0 .0, start .pre .0 .1, omega (arith, goes n p os s (start .pre .0 .1) (l .loop .j) (l .loop .colour) _ (c .next-step .ensures) (runsFromStep n p os 0 0) (l .loop .i) (l .loop .inv .1) (omega (arith, start .pre .1))))
 
 pack-requires : tie.Need-pack-requires Inv-loop μ-loop
 pack-requires c κs =
@@ -50,7 +50,7 @@ pack-requires c κs =
     let long : length os ≡ length ws = oriented-long (start .args .reversed) n ws in
     let l = c .before .before .before in
     let e = c .part-at .ensures in
-    (omega (arith, run-small n p os s (start .pre .0 .1) (l .loop .j) (l .loop .colour) _ (c .before .next-step .ensures) (ahead n p os 0 0) (l .loop .i) (l .loop .inv .1) (omega (arith, start .pre .1)) _ e, start .pre .0 .0 .small), e .narrow)
+    (omega (arith, run-small n p os s (start .pre .0 .1) (l .loop .j) (l .loop .colour) _ (c .before .next-step .ensures) (runsFromStep n p os 0 0) (l .loop .i) (l .loop .inv .1) (omega (arith, start .pre .1)) _ e, start .pre .0 .0 .small), e .narrow)
 
 mul-out : tie.Need-mul-out Inv-loop μ-loop
 mul-out c = search needs
@@ -68,7 +68,7 @@ add-j c =
     let s = oriented-steady (start .args .reversed) n ws (start .pre .0 .0 .small) (start .pre .0 .0 .list) in
     let long : length os ≡ length ws = oriented-long (start .args .reversed) n ws in
     let l = c .before .before .before .before in
-    omega (arith, goes n p os s (start .pre .0 .1) (l .loop .j) (l .loop .colour) _ (c .before .before .next-step .ensures) (ahead n p os 0 0) (l .loop .i) (l .loop .inv .1) (omega (arith, start .pre .1)))
+    omega (arith, goes n p os s (start .pre .0 .1) (l .loop .j) (l .loop .colour) _ (c .before .before .next-step .ensures) (runsFromStep n p os 0 0) (l .loop .i) (l .loop .inv .1) (omega (arith, start .pre .1)))
 
 add-i : tie.Need-add-i Inv-loop μ-loop
 add-i c = search needs
@@ -87,9 +87,9 @@ loop-again c =
     let long : length os ≡ length ws = oriented-long (start .args .reversed) n ws in
     let l = c .before .before .before .before in
     let e = c .before .part-at .ensures in
-    let all = ahead n p os 0 0 in
-    let x = goes n p os s (start .pre .0 .1) (l .loop .j) (l .loop .colour) _ (c .before .before .next-step .ensures) (ahead n p os 0 0) (l .loop .i) (l .loop .inv .1) (omega (arith, start .pre .1)) in
-    (omega (arith, x), rest-is n p os s (start .pre .0 .1) (l .loop .j) (l .loop .colour) _ (c .before .before .next-step .ensures) (ahead n p os 0 0) (l .loop .i) (l .loop .inv .1) (omega (arith, start .pre .1)) _ e, omega arith, fill-more all _ _ (l .loop .i) _ 0 (omega (arith, start .pre .1)) (omega (arith, l .loop .inv .3 .long, start .pre .0 .2)) (c .pack .ensures ∙ run-is n p os s (start .pre .0 .1) (l .loop .j) (l .loop .colour) _ (c .before .before .next-step .ensures) (ahead n p os 0 0) (l .loop .i) (l .loop .inv .1) (omega (arith, start .pre .1)) _ e) (l .loop .inv .3))
+    let all = runsFromStep n p os 0 0 in
+    let x = goes n p os s (start .pre .0 .1) (l .loop .j) (l .loop .colour) _ (c .before .before .next-step .ensures) (runsFromStep n p os 0 0) (l .loop .i) (l .loop .inv .1) (omega (arith, start .pre .1)) in
+    (omega (arith, x), rest-is n p os s (start .pre .0 .1) (l .loop .j) (l .loop .colour) _ (c .before .before .next-step .ensures) (runsFromStep n p os 0 0) (l .loop .i) (l .loop .inv .1) (omega (arith, start .pre .1)) _ e, omega arith, fill-more all _ _ (l .loop .i) _ 0 (omega (arith, start .pre .1)) (omega (arith, l .loop .inv .3 .long, start .pre .0 .2)) (c .pack .ensures ∙ run-is n p os s (start .pre .0 .1) (l .loop .j) (l .loop .colour) _ (c .before .before .next-step .ensures) (runsFromStep n p os 0 0) (l .loop .i) (l .loop .inv .1) (omega (arith, start .pre .1)) _ e) (l .loop .inv .3))
 
 same-length : tie.Need-same-length Inv-loop μ-loop
 same-length c = c .before .loop .inv .3 .long

@@ -8,8 +8,8 @@ use lib.ListN.{length}
 use borrow.Author.Needs.{needs}
 use Rattle.base.proofs.Bools.{via}
 use Rattle.runs.specs.Reverse.{oriented}
-use Rattle.runs.specs.Cursor.{begins, ahead}
-use Rattle.runs.proofs.Laws.Orders.{taken, begins as begins-at}
+use Rattle.runs.specs.Inside.Cursor.{begins, runsFromStep}
+use Rattle.runs.proofs.Laws.Orders.{taken, run-begins as begins-at}
 use Rattle.runs.proofs.Laws.Reverse.{oriented-long, oriented-steady}
 use Rattle.runs.proofs.Laws.Cursor.{pass-none, pass-same}
 use Rattle.runs.proofs.rotate.next_step.Statement.{statement}
@@ -17,7 +17,7 @@ use Rattle.runs.proofs.rotate.next_step.Tie as tie
 
 abbrev Inv-loop : tie.InvT-loop
 Inv-loop runs n p reversed from colour m j₀ j =
-    (from ≤ j) × (j ≤ length runs + length runs) × (ahead n p (oriented reversed n runs) from colour ≡ ahead n p (oriented reversed n runs) j colour)
+    (from ≤ j) × (j ≤ length runs + length runs) × (runsFromStep n p (oriented reversed n runs) from colour ≡ runsFromStep n p (oriented reversed n runs) j colour)
 
 abbrev μ-loop : tie.MeasureT-loop
 μ-loop runs n p reversed from colour m j₀ j = length runs + length runs - j
@@ -50,7 +50,7 @@ returns c =
       from = l .loop .inv .0;
       inside = omega (arith, l .loop .inv .1);
       same = l .loop .inv .2;
-      found = λ _. (omega (arith, e .starts, e .ends, c .before .before .if1 .taken), ap₂ (λ (x y : ℕ). begins x (start .args .colour) y) (sym (e .starts)) (sym (e .hued)) ∙ via (c .before .begins-at .ensures) (c .if2 .taken));
+      found = λ _. (omega (arith, e .starts, e .ends, c .before .before .if1 .taken), ap₂ (λ (x y : ℕ). begins x (start .args .colour) y) (sym (e .starts)) (sym (e .coloured)) ∙ via (c .before .begins-at .ensures) (c .if2 .taken));
     }
 
 add-j : tie.Need-add-j Inv-loop μ-loop
@@ -72,8 +72,8 @@ loop-again c =
     let j = l .loop .j in
     let more : j < length os + length os = omega arith in
     let e = c .before .before .part-at .ensures in
-    let on : ahead n p os j (start .args .colour) ≡ ahead n p os (j + 1) (start .args .colour) =
-    ⊎-elim (λ w. pass-same n p os s (start .pre .1) j (start .args .colour) more (ap₂ (λ (x y : ℕ). begins x (start .args .colour) y) (sym (e .starts)) (sym (e .hued)) ∙ via (w .1 .ensures) (w .2 .left))) (λ w. pass-none n p os s (start .pre .1) j (start .args .colour) more (omega (arith, e .starts, e .ends, w .left))) (c .if1 .came)
+    let on : runsFromStep n p os j (start .args .colour) ≡ runsFromStep n p os (j + 1) (start .args .colour) =
+    ⊎-elim (λ w. pass-same n p os s (start .pre .1) j (start .args .colour) more (ap₂ (λ (x y : ℕ). begins x (start .args .colour) y) (sym (e .starts)) (sym (e .coloured)) ∙ via (w .1 .ensures) (w .2 .left))) (λ w. pass-none n p os s (start .pre .1) j (start .args .colour) more (omega (arith, e .starts, e .ends, w .left))) (c .if1 .came)
     in
     (omega (arith, l .loop .inv .0), omega arith, l .loop .inv .2 ∙ on)
 

@@ -7,7 +7,7 @@ use denote.Ref.{now}
 use lib.ListN.{length, getD, length-set}
 use borrow.Author.Needs.{needs}
 use Rattle.runs.specs.Words.{offset, coordinate, pack}
-use Rattle.runs.specs.Swap.{Swapped}
+use Rattle.runs.specs.Inside.Swap.{Swapped}
 use Rattle.runs.proofs.Laws.Orders.{end-le, offset-le}
 use Rattle.runs.proofs.Laws.Swap.{swap-end, swap-mid, swap-step}
 use Rattle.runs.proofs.swap.swap_ends.Statement.{statement}
@@ -114,8 +114,8 @@ slice-read-next c =
     let s = l .loop .inv ws refl (l .before .before .before .swap-fours .ensures) in
     omega (arith, s .half, s .long, c .before .before .before .loop-test .taken)
 
-turned-requires : tie.Need-turned-requires Inv-loop μ-loop
-turned-requires c κs =
+backed-requires : tie.Need-backed-requires Inv-loop μ-loop
+backed-requires c κs =
     let l = c .before .before .before .before in
     let start = l .before .before .before .before .before .before in
     let ws = now (start .args .runs) in
@@ -138,8 +138,8 @@ slice-write-runs c =
     let s = l .loop .inv ws refl (l .before .before .before .swap-fours .ensures) in
     omega (arith, s .half, s .long, c .before .before .before .before .loop-test .taken)
 
-turned-requires-2 : tie.Need-turned-requires-2 Inv-loop μ-loop
-turned-requires-2 c κs =
+backed-requires-2 : tie.Need-backed-requires-2 Inv-loop μ-loop
+backed-requires-2 c κs =
     let l = c .before .before .before .before .before in
     let start = l .before .before .before .before .before .before in
     let ws = now (start .args .runs) in
@@ -162,7 +162,7 @@ slice-write-runs-2 c =
     let start = l .before .before .before .before .before .before in
     let ws = now (start .args .runs) in
     let s = l .loop .inv ws refl (l .before .before .before .swap-fours .ensures) in
-    omega (arith, s .half, s .long, c .before .before .before .before .before .loop-test .taken, length-set (l .loop .runs) (l .loop .i) (c .before .turned .result))
+    omega (arith, s .half, s .long, c .before .before .before .before .before .loop-test .taken, length-set (l .loop .runs) (l .loop .i) (c .before .backed .result))
 
 add-i : tie.Need-add-i Inv-loop μ-loop
 add-i c =
@@ -183,7 +183,7 @@ loop-less c =
 loop-again : tie.Need-loop-again Inv-loop μ-loop
 loop-again c = λ ws e s.
     let l = c .before .before .before .before .before .before in
-    swap-step _ ws (l .loop .runs) _ (l .loop .i) _ e (l .loop .inv ws e s) _ _ _ (c .before .before .before .before .before .loop-test .taken) (c .before .turned .ensures) (c .turned2 .ensures) refl
+    swap-step _ ws (l .loop .runs) _ (l .loop .i) _ e (l .loop .inv ws e s) _ _ _ (c .before .before .before .before .before .loop-test .taken) (c .before .backed .ensures) (c .backed2 .ensures) refl
 
 add-if1 : tie.Need-add-if1 Inv-loop μ-loop
 add-if1 c =
@@ -193,24 +193,24 @@ add-if1 c =
     let s = l .loop .inv ws refl (l .before .before .before .swap-fours .ensures) in
     omega (arith, s .half, s .long, c .loop-test .left)
 
-mul-turned : tie.Need-mul-turned Inv-loop μ-loop
-mul-turned c =
+mul-backed : tie.Need-mul-backed Inv-loop μ-loop
+mul-backed c =
     let l = c .before .before in
     let start = l .before .before .before .before .before .before in
     let ws = now (start .args .runs) in
     let s = l .loop .inv ws refl (l .before .before .before .swap-fours .ensures) in
     omega (arith, s .half, s .long, c .before .loop-test .left)
 
-slice-read-turned : tie.Need-slice-read-turned Inv-loop μ-loop
-slice-read-turned c =
+slice-read-backed : tie.Need-slice-read-backed Inv-loop μ-loop
+slice-read-backed c =
     let l = c .before .before .before in
     let start = l .before .before .before .before .before .before in
     let ws = now (start .args .runs) in
     let s = l .loop .inv ws refl (l .before .before .before .swap-fours .ensures) in
     omega (arith, s .half, s .long, c .before .before .loop-test .left, c .before .if1 .taken)
 
-turned-requires-3 : tie.Need-turned-requires-3 Inv-loop μ-loop
-turned-requires-3 c κs =
+backed-requires-3 : tie.Need-backed-requires-3 Inv-loop μ-loop
+backed-requires-3 c κs =
     let l = c .before .before .before in
     let start = l .before .before .before .before .before .before in
     let ws = now (start .args .runs) in
@@ -239,7 +239,7 @@ same-length c =
     let start = l .before .before .before .before .before .before in
     let ws = now (start .args .runs) in
     let s = l .loop .inv ws refl (l .before .before .before .swap-fours .ensures) in
-    length-set (l .loop .runs) (l .loop .i) (c .turned3 .result) ∙ s .long
+    length-set (l .loop .runs) (l .loop .i) (c .backed3 .result) ∙ s .long
 
 returns : tie.Need-returns Inv-loop μ-loop
 returns c =
@@ -251,7 +251,7 @@ returns c =
     let one : length ws ≤ i + i + 1 = c .before .before .before .loop-test .left in
     let some : i + i < length ws = c .before .before .if1 .taken in
     let mid : i ≡ length ws - 1 - i = omega arith in
-    swap-mid (start .args .n) ws (l .loop .runs) _ i s (c .turned3 .result) (c .turned3 .ensures ∙ ap (λ (k : ℕ). pack (start .args .n - offset (l .loop .behind)) (coordinate (getD (l .loop .runs) k 0))) mid) some one
+    swap-mid (start .args .n) ws (l .loop .runs) _ i s (c .backed3 .result) (c .backed3 .ensures ∙ ap (λ (k : ℕ). pack (start .args .n - offset (l .loop .behind)) (coordinate (getD (l .loop .runs) k 0))) mid) some one
 
 same-length-2 : tie.Need-same-length-2 Inv-loop μ-loop
 same-length-2 c =
@@ -288,19 +288,19 @@ swap-ends-spec =
     add-next
     mul-next
     slice-read-next
-    turned-requires
+    backed-requires
     mul-runs
     slice-write-runs
-    turned-requires-2
+    backed-requires-2
     mul-runs-2
     slice-write-runs-2
     add-i
     loop-less
     loop-again
     add-if1
-    mul-turned
-    slice-read-turned
-    turned-requires-3
+    mul-backed
+    slice-read-backed
+    backed-requires-3
     mul-runs-3
     slice-write-runs-3
     same-length

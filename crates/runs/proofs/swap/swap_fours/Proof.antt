@@ -2,12 +2,11 @@
 use Prim.Native.Nat.{ℕ, _+_, _-_, _<_}
 use mathlib.Core.Path.{_≡_, refl, sym, ap, _∙_, subst}
 use mathlib.Core.List.{List}
-use native.Mathlib.Omega.{arith}
 use denote.Ref.{now}
 use lib.ListN.{length, getD}
 use borrow.Author.Needs.{needs}
 use Rattle.runs.specs.Words.{offset}
-use Rattle.runs.specs.Swap.{Swapped, putFour}
+use Rattle.runs.specs.Inside.Swap.{Swapped, putFour}
 use Rattle.runs.proofs.Laws.Swap.{swap-first, low-within, high-within, length-four, swap-four, four-less}
 use Rattle.runs.proofs.swap.swap_fours.Statement.{statement}
 use Rattle.runs.proofs.swap.swap_fours.Tie as tie

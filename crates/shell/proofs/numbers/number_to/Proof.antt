@@ -3,14 +3,14 @@ use Prim.Native.Nat.{_-_, _≤_}
 use mathlib.Core.Path.{_≡_}
 use native.Mathlib.Omega.{arith}
 use lib.ListN.{length, drop}
-use Rattle.shell.specs.Numbers.{numberOf, numberFrom}
+use Rattle.shell.specs.Numbers.{decimalOf, numberFrom}
 use Rattle.shell.proofs.Laws.Numbers.{digits, number-start, number-next}
 use borrow.Author.Needs.{needs}
 use Rattle.shell.proofs.numbers.number_to.Statement.{statement}
 use Rattle.shell.proofs.numbers.number_to.Tie as tie
 
 abbrev Inv-loop : tie.InvT-loop
-Inv-loop text most value₀ i₀ value i = (value ≤ most) × (numberOf most text ≡ numberFrom most value (drop i text))
+Inv-loop text most value₀ i₀ value i = (value ≤ most) × (decimalOf most text ≡ numberFrom most value (drop i text))
 
 abbrev μ-loop : tie.MeasureT-loop
 μ-loop text most value₀ i₀ value i = length text - i

@@ -29,7 +29,7 @@ pub record Backed (n : ℕ) (ws : List ℕ) (p next : ℕ) (f : Four) : Type 0 w
   pub four : f .four ≡ backed n ws (p + 3) next
 
 -- that can be so
-pub record Within (n : ℕ) (ws : List ℕ) (p next : ℕ) : Type 0 where
+pub record FourFit (n : ℕ) (ws : List ℕ) (p next : ℕ) : Type 0 where
   pub inside : p + 3 < length ws
   pub one : offset (getD ws (p + 1) 0) ≤ n
   pub two : offset (getD ws (p + 2) 0) ≤ n

@@ -7,10 +7,10 @@ use lib.ListN.{length, take, drop, getD}
 use lib.Dec.{eqb}
 use Rattle.base.specs.Parts.{over}
 use Rattle.codec.specs.Bits.{bitsOf, digit}
-use Rattle.codec.specs.Sets.{Within, mapBits, idsOf, absent, gapBits, ReadIds, given, none}
+use Rattle.codec.specs.Sets.{Within, mapBits, idsOf, absent, ReadIds, given, none}
 use Rattle.codec.specs.declared.gaps.Cursor.{Cursor}
-use Rattle.codec.specs.declared.gaps.Next.{Next}
-use Rattle.codec.specs.declared.gaps.Next.the-variants.{Id, End}
+use Rattle.codec.specs.declared.gaps.NextId.{NextId}
+use Rattle.codec.specs.declared.gaps.NextId.the-variants.{Id, End}
 use Rattle.codec.specs.declared.gaps.Checked.{Checked}
 use Rattle.codec.specs.declared.gaps.Checked.the-variants.{Good, Bad}
 
@@ -47,7 +47,7 @@ pub record Skipped (N : ℕ) (ids : List ℕ) (i from k : ℕ) : Type 0 where
   pub same : absentFrom from (N - from) (drop i ids) ≡ absentFrom (from + k) (N - (from + k)) (drop (i + k) ids)
 
 -- the next id and the cursor behind it, or the end
-abbrev pub Gave : Bool → ℕ → List ℕ → Cursor → Next → Type 0
+abbrev pub Gave : Bool → ℕ → List ℕ → Cursor → NextId → Type 0
 Gave dense N ids c (Id id next) =
     (codedFrom dense N ids c ≡ id ∷ codedFrom dense N ids next) × (c .from ≤ id) × (id < N) × (next .from ≡ id + 1) × Ahead N ids next
 Gave dense N ids c End = codedFrom dense N ids c ≡ []
@@ -64,9 +64,9 @@ abbrev pub idsIn : ReadIds → List ℕ
 idsIn (given xs rest) = xs
 idsIn none = []
 
-abbrev pub after : List ℕ → ReadIds → ReadIds
-after xs (given ys rest) = given (xs ++ ys) rest
-after xs none = none
+abbrev pub withIds : List ℕ → ReadIds → ReadIds
+withIds xs (given ys rest) = given (xs ++ ys) rest
+withIds xs none = none
 
 abbrev pub Accepted : ReadIds → Type 0
 Accepted r = (xs : List ℕ) × (rest : List Bool) × (r ≡ given xs rest)

@@ -7,7 +7,7 @@ use lib.ListN.{length, take, drop}
 use Rattle.codec.specs.Bits.{bitsOf, lowBits}
 use Rattle.codec.specs.Codes.{highBit}
 use Rattle.codec.specs.declared.bits.BitWriter.{BitWriter}
-use Rattle.codec.specs.declared.codes.Word.{Word}
+use Rattle.codec.specs.declared.codes.Codeword.{Codeword}
 use Rattle.codec.specs.declared.codes.Split.{Split}
 
 -- the bits written: those of the whole bytes in the buffer, then the pending ones
@@ -31,7 +31,7 @@ pub record Wrote (out after : List ℕ) (w r : BitWriter) (bits : List Bool) : T
   pub kept : drop (r .at) after ≡ drop (r .at) out
 
 -- a number whose low bits are the code
-pub record WordOf (w : Word) (bits : List Bool) : Type 0 where
+pub record CodewordOf (w : Codeword) (bits : List Bool) : Type 0 where
   pub code : lowBits (w .count) (w .value) ≡ bits
   pub small : w .value < 2 ^ w .count
 

@@ -14,9 +14,9 @@ use Rattle.codec.specs.declared.index.Step.{Step}
 use Rattle.codec.specs.declared.index.Step.the-variants as step
 
 -- the refusal of a prefix that isn't whole
-abbrev pub upOf : Prefix → Step
-upOf (prefix.Whole n len) = step.Refused refusal.Damaged
-upOf (prefix.Refused r) = step.Refused r
+abbrev pub upStep : Prefix → Step
+upStep (prefix.Whole n len) = step.Refused refusal.Damaged
+upStep (prefix.Refused r) = step.Refused r
 
 -- the refusal of a step
 abbrev pub madeOf : Step → Made

@@ -1,14 +1,14 @@
 -- What is found in a payload.
-use Prim.Native.Nat.{ℕ, _-_, _*_, _≤_, _<_}
+use Prim.Native.Nat.{ℕ, _-_, _*_, _≤_}
 use mathlib.Core.Path.{_≡_}
-use mathlib.Core.Bool.{Bool, true, false, _||_}
+use mathlib.Core.Bool.{Bool, false, _||_}
 use mathlib.Core.List.{List, [], _∷_}
 use lib.Dec.{leb}
 use lib.ListN.{length, drop}
 use Rattle.codec.specs.Bits.{bitsOf}
 use Rattle.codec.specs.Codes.{got, readDelta}
 use Rattle.codec.specs.Sets.{Regime, empty, sparse, bitmap, dense, regime, readGaps, Decoded, set, noSet, decodeSet}
-use Rattle.codec.specs.Gaps.{Kept}
+use Rattle.codec.specs.Inside.Gaps.{Kept}
 use Rattle.codec.specs.Records.{same}
 use Rattle.codec.specs.declared.sets.Kind.{Kind}
 use Rattle.codec.specs.declared.sets.Kind.the-variants.{Empty, Sparse, Bitmap, Dense}
@@ -16,9 +16,9 @@ use Rattle.codec.specs.declared.sets.Payload.{Payload}
 use Rattle.codec.specs.declared.sets.Payload.the-variants.{Ids, NoIds}
 
 -- whether one of the ids behind x is not above the one before it
-unfoldable pub falls : ℕ → List ℕ → Bool
-falls x [] = false
-falls x (y ∷ ys) = leb y x || falls y ys
+unfoldable pub hasFall : ℕ → List ℕ → Bool
+hasFall x [] = false
+hasFall x (y ∷ ys) = leb y x || hasFall y ys
 
 abbrev pub regimeOf : Kind → Regime
 regimeOf Empty = empty

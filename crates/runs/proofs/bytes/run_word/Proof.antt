@@ -1,4 +1,4 @@
--- `runs::bytes::word_at` meets its contract.
+-- `runs::bytes::run_word` meets its contract.
 use Prim.Native.Nat.{ℕ}
 use mathlib.Core.Path.{sym, ap, ap₂, _∙_}
 use mathlib.Core.List.{[], _∷_}
@@ -6,8 +6,8 @@ use denote.Ref.{now}
 use borrow.Author.Needs.{needs}
 use Rattle.runs.specs.Bytes.{leValue}
 use Rattle.runs.proofs.Laws.Bytes.{take-8, value-8}
-use Rattle.runs.proofs.bytes.word_at.Statement.{statement}
-use Rattle.runs.proofs.bytes.word_at.Tie as tie
+use Rattle.runs.proofs.bytes.run_word.Statement.{statement}
+use Rattle.runs.proofs.bytes.run_word.Tie as tie
 
 shared-slice-read-wide : tie.Need-shared-slice-read-wide
 shared-slice-read-wide c = search needs
@@ -130,8 +130,8 @@ returns c =
     let w4 = c .before .before .before .before .before .before .wide5 .ensures .0 in let w5 = c .before .before .before .before .wide6 .ensures .0 in let w6 = c .before .before .wide7 .ensures .0 in let w7 = c .wide8 .ensures .0 in
     value-8 _ _ _ _ _ _ _ _ ∙ ap leValue (ap₂ _∷_ w0 (ap₂ _∷_ w1 (ap₂ _∷_ w2 (ap₂ _∷_ w3 (ap₂ _∷_ w4 (ap₂ _∷_ w5 (ap₂ _∷_ w6 (ap (λ (x : ℕ). x ∷ []) w7))))))) ∙ sym v)
 
-pub word-at-spec : {M : Type 1} → statement M
-word-at-spec =
+pub run-word-spec : {M : Type 1} → statement M
+run-word-spec =
     tie.close
     (tie.spec
     shared-slice-read-wide
