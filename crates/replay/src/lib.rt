@@ -1,22 +1,21 @@
 // Runs a list of calls, six numbers each, through the store's methods: demand 3 of running code.
-use base::Refusal;
+use base::Made;
 use store::state::Answer;
-use store::state::Started;
 use store::state::Store;
 use store::state::Told;
 use store::state::Way;
 ghost use mathlib.Core.Path.{_≡_};
-ghost use mathlib.Core.Bool.{Bool};
 ghost use Prim.Native.Nat.{_+_, _-_, _*_, _<_, _≤_, min};
 ghost use lib.ListN.{length, take, drop};
-ghost use Rattle.store.specs.Plain.{add, join, close};
+ghost use Rattle.store.specs.Plain.{add, join};
 ghost use Rattle.store.specs.State.{bufs, ofAnswer};
+ghost use Rattle.store.specs.Close.{closeStep};
 ghost use Rattle.store.specs.Show.{showStep};
-ghost use Rattle.store.specs.Demand.{codeStep, say};
-ghost use Rattle.replay.specs.Tape.{refusalOf, valueOf, saidOf, spanOf, part, headAt, roomOf, lentOf, heardOf, shownOf, oneOf, tape, replayStep, sessionClaim};
+ghost use Rattle.store.specs.Demand.{storeStep, updating, updated};
+ghost use Rattle.replay.specs.Tape.{refusalOf, valueOf, notedOf, spanOf, part, headAt, roomOf, lentOf, toldOf, shownOf, oneOf, tape, replayStep, sessionClaim};
 
 // A call: 0 adds ids, 1 joins a piece of b vertices, reversed where c is not 0, 2 closes a line, 3 a cycle with pivot b, each with
-// number a; anything else shows vertex b of unitig a. `from` and `count` say which ids or runs; a show takes `count` places of the output.
+// number a; anything else shows vertex b of unitig a. `from` and `count` updating which ids or runs; a show takes `count` places of the output.
 pub struct Head {
     pub kind: u32,
     pub a: u32,
@@ -33,15 +32,16 @@ pub struct Span {
 }
 
 // What is told of a call: a refusal's number or 0, and the answer or 0.
-pub struct Said {
+pub struct Noted {
     pub store: Store,
     pub refusal: u32,
     pub answer: u64,
 }
 
-pub enum Ended {
-    Refused(Refusal),
-    Ran(Store),
+// What a session leaves: the state after its last call, or a refused start with the state that it hands back.
+pub struct Finished {
+    pub store: Store,
+    pub answer: Made,
 }
 
 fn refusal_of(a: Answer) -> u32
@@ -62,12 +62,12 @@ fn value_of(a: Answer) -> u64
     }
 }
 
-fn tell(t: Told) -> Said
-    ensures { λ r. ⌜ r ≡ saidOf t ⌝ }
+fn tell(t: Told) -> Noted
+    ensures { λ r. ⌜ r ≡ notedOf t ⌝ }
 {
     let store = t.store;
     let answer = t.answer;
-    Said {
+    Noted {
         store,
         refusal: refusal_of(answer),
         answer: value_of(answer),
@@ -128,9 +128,9 @@ fn one_add(
     held: &[u64],
     runs: &[u8],
     table: &[u64],
-) -> Said
+) -> Noted
     ensures { λ r. ⌜ (r .refusal, r .answer, r .store, bufs (now (records .exit)) (now (index .exit)) (now (opened .entry)) (now (held .entry)) (now (runs .entry)) (now (table .entry)))
-        ≡ heardOf (codeStep s (bufs (now (records .entry)) (now (index .entry)) (now (opened .entry)) (now (held .entry)) (now (runs .entry)) (now (table .entry))) (say number (add (part (now (ids .entry)) from count)))) ⌝ }
+        ≡ toldOf (storeStep s (bufs (now (records .entry)) (now (index .entry)) (now (opened .entry)) (now (held .entry)) (now (runs .entry)) (now (table .entry))) (updating number (add (part (now (ids .entry)) from count)))) ⌝ }
 {
     let p = span_in(from, count, ids.len());
     let at = p.from;
@@ -161,9 +161,9 @@ fn one_join(
     held: &mut [u64],
     runs: &[u8],
     table: &[u64],
-) -> Said
+) -> Noted
     ensures { λ r. ⌜ (r .refusal, r .answer, r .store, bufs (now (records .entry)) (now (index .entry)) (now (opened .exit)) (now (held .exit)) (now (runs .entry)) (now (table .entry)))
-        ≡ heardOf (codeStep s (bufs (now (records .entry)) (now (index .entry)) (now (opened .entry)) (now (held .entry)) (now (runs .entry)) (now (table .entry))) (say number (join n reversed (part (now (pieces .entry)) from count)))) ⌝ }
+        ≡ toldOf (storeStep s (bufs (now (records .entry)) (now (index .entry)) (now (opened .entry)) (now (held .entry)) (now (runs .entry)) (now (table .entry))) (updating number (join n reversed (part (now (pieces .entry)) from count)))) ⌝ }
 {
     let p = span_in(from, count, pieces.len());
     let at = p.from;
@@ -192,9 +192,9 @@ fn one_close(
     held: &[u64],
     runs: &mut [u8],
     table: &mut [u64],
-) -> Said
+) -> Noted
     ensures { λ r. ⌜ (r .refusal, r .answer, r .store, bufs (now (records .entry)) (now (index .entry)) (now (opened .entry)) (now (held .entry)) (now (runs .exit)) (now (table .exit)))
-        ≡ heardOf (codeStep s (bufs (now (records .entry)) (now (index .entry)) (now (opened .entry)) (now (held .entry)) (now (runs .entry)) (now (table .entry))) (say number (close way))) ⌝ }
+        ≡ toldOf (updated (closeStep s (bufs (now (records .entry)) (now (index .entry)) (now (opened .entry)) (now (held .entry)) (now (runs .entry)) (now (table .entry))) number way)) ⌝ }
 {
     tell(s.close(number, way, records, index, opened, held, runs, table))
 }
@@ -213,7 +213,7 @@ fn one_show(
     held: &[u64],
     runs: &[u8],
     table: &[u64],
-) -> Said
+) -> Noted
     requires { ⌜ at + room ≤ length (now shown) ⌝ }
     ensures { λ r. ⌜ (r .refusal, r .answer, r .store, now (shown .exit)) ≡ shownOf s (showStep s (bufs (now (records .entry)) (now (index .entry)) (now (opened .entry)) (now (held .entry)) (now (runs .entry)) (now (table .entry))) unitig vertex (take room (drop at (now (shown .entry))))) at room (now (shown .entry)) ⌝ }
 {
@@ -245,10 +245,10 @@ fn one(
     runs: &mut [u8],
     table: &mut [u64],
     shown: &mut [u32],
-) -> Said
+) -> Noted
     requires { ⌜ (at ≤ length (now shown)) × (room ≡ roomOf head (length (now shown) - at)) × (room ≤ length (now shown) - at) ⌝ }
     ensures { λ r. ⌜ (r .refusal, r .answer, r .store, bufs (now (records .exit)) (now (index .exit)) (now (opened .exit)) (now (held .exit)) (now (runs .exit)) (now (table .exit)), now (shown .exit))
-        ≡ oneOf (codeStep s (bufs (now (records .entry)) (now (index .entry)) (now (opened .entry)) (now (held .entry)) (now (runs .entry)) (now (table .entry))) (lentOf head (now (ids .entry)) (now (pieces .entry)) (take room (drop at (now (shown .entry)))))) at room (now (shown .entry)) ⌝ }
+        ≡ oneOf (storeStep s (bufs (now (records .entry)) (now (index .entry)) (now (opened .entry)) (now (held .entry)) (now (runs .entry)) (now (table .entry))) (lentOf head (now (ids .entry)) (now (pieces .entry)) (take room (drop at (now (shown .entry)))))) at room (now (shown .entry)) ⌝ }
 {
     let kind = head.kind;
     if kind == 0 {
@@ -397,27 +397,39 @@ pub fn session(
     refusals: &mut [u32],
     answers: &mut [u64],
     shown: &mut [u32],
-) -> Ended
-    ensures { λ r. ⌜ sessionClaim r colors worker (now (calls .entry)) (now (ids .entry)) (now (pieces .entry))
+) -> Finished
+    ensures { λ r. ⌜ sessionClaim (r .answer) (r .store) colors worker (now (calls .entry)) (now (ids .entry)) (now (pieces .entry))
         (bufs (now (records .entry)) (now (index .entry)) (now (opened .entry)) (now (held .entry)) (now (runs .entry)) (now (table .entry))) (now (refusals .entry)) (now (answers .entry)) (now (shown .entry))
         (bufs (now (records .exit)) (now (index .exit)) (now (opened .exit)) (now (held .exit)) (now (runs .exit)) (now (table .exit))) (now (refusals .exit)) (now (answers .exit)) (now (shown .exit)) ⌝ }
 {
-    match Store::start(colors, worker, records, index, opened, held, runs, table) {
-        Started::Refused(r) => Ended::Refused(r),
-        Started::Fresh(s) => Ended::Ran(replay(
-            s,
-            calls,
-            ids,
-            pieces,
-            records,
-            index,
-            opened,
-            held,
-            runs,
-            table,
-            refusals,
-            answers,
-            shown,
-        )),
+    let begun = Store::start(colors, worker, records, index, opened, held, runs, table);
+    let store = begun.store;
+    let answer = begun.answer;
+    match answer {
+        Made::Refused(r) => Finished {
+            store,
+            answer: Made::Refused(r),
+        },
+        Made::Done => {
+            let last = replay(
+                store,
+                calls,
+                ids,
+                pieces,
+                records,
+                index,
+                opened,
+                held,
+                runs,
+                table,
+                refusals,
+                answers,
+                shown,
+            );
+            Finished {
+                store: last,
+                answer: Made::Done,
+            }
+        }
     }
 }

@@ -2,10 +2,10 @@
 // array type, which says how long it is: nothing has to be carried about its length from call to call.
 
 // What one read takes, or the answers that wait.
-pub type Chunk = [u8; 65536];
+pub type IoBuffer = [u8; 65536];
 
 // A line.
-pub type Line = [u8; 786432];
+pub type LineBuffer = [u8; 786432];
 
 // The bytes of one record.
 pub type Space = [u8; 393216];
@@ -17,7 +17,7 @@ pub type File = [u8; 1048576];
 pub type Ids = [u32; 65536];
 
 // The index, or the runs of one piece.
-pub type Words = [u64; 65536];
+pub type Words64k = [u64; 65536];
 
 // The open runs, the held piece, or two numbers for each of 16,384 unitigs.
-pub type Half = [u64; 32768];
+pub type Words32k = [u64; 32768];

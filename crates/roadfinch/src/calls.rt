@@ -1,16 +1,17 @@
 // The numbered calls and show: words to arguments, arguments to the store.
 use crate::buffers::File;
-use crate::buffers::Half;
 use crate::buffers::Ids;
-use crate::buffers::Words;
+use crate::buffers::Words32k;
+use crate::buffers::Words64k;
 use crate::parse;
-use crate::parse::Ended;
+use crate::parse::Closing;
 use crate::parse::Numbered;
 use crate::parse::Piece;
 use crate::parse::Vertex;
+use crate::replies::Outcome;
 use crate::replies::Reply;
-use crate::replies::Said;
 use crate::replies::wrong;
+use base::Made;
 use shell::fields;
 use shell::lists;
 use shell::lists::Listed;
@@ -29,17 +30,17 @@ fn reply_of(answer: Answer) -> Reply {
     }
 }
 
-fn told(t: Told) -> Said {
+fn told(t: Told) -> Outcome {
     let store = t.store;
     let answer = t.answer;
-    Said {
+    Outcome {
         store,
         reply: reply_of(answer),
     }
 }
 
 // The store's lengths are within the program's buffers since start; this says so to the prover.
-fn least(a: usize, most: usize) -> usize
+fn at_most(a: usize, most: usize) -> usize
     ensures { λ r. ⌜ r ≤ most ⌝ }
 {
     if a < most { a } else { most }
@@ -47,13 +48,16 @@ fn least(a: usize, most: usize) -> usize
 
 // ---- start
 
-fn started(store: Store, s: Started) -> Said {
-    match s {
-        Started::Fresh(fresh) => Said {
+// A refused start leaves the store that there is.
+fn started(store: Store, begun: Started) -> Outcome {
+    let fresh = begun.store;
+    let answer = begun.answer;
+    match answer {
+        Made::Done => Outcome {
             store: fresh,
             reply: Reply::Done(0),
         },
-        Started::Refused(r) => Said {
+        Made::Refused(r) => Outcome {
             store,
             reply: Reply::Refused(r),
         },
@@ -98,7 +102,7 @@ fn start_with(
     held: &[u64],
     runs: &[u8],
     table: &[u64],
-) -> Said {
+) -> Outcome {
     if is_long(
         args,
         records.len(),
@@ -110,7 +114,7 @@ fn start_with(
     ) {
         return wrong(store, Fault::Length);
     }
-    let b = least(parse::entry(args, 3), index.len());
+    let b = at_most(parse::entry(args, 3), index.len());
     started(
         store,
         Store::start(
@@ -133,12 +137,12 @@ pub(crate) fn start(
     from: usize,
     ids: &mut Ids,
     records: &File,
-    index: &mut Words,
-    opened: &Half,
-    held: &Half,
+    index: &mut Words64k,
+    opened: &Words32k,
+    held: &Words32k,
     runs: &File,
-    table: &Half,
-) -> Said {
+    table: &Words32k,
+) -> Outcome {
     match parse::exactly(words, from, 8, ids) {
         Listed::Wrong(f) => wrong(store, f),
         Listed::Done(count) => start_with(
@@ -167,18 +171,19 @@ fn add_to(
     runs: &[u8],
     table: &[u64],
 ) -> Told {
-    let l = store.lengths;
-    let a = least(l.records, records.len());
-    let b = least(l.index, index.len());
+    let cell = store.cell;
+    let shared = store.shared;
+    let a = at_most(cell.records.length, records.len());
+    let b = at_most(cell.index, index.len());
     store.add(
         number,
         ids,
         &mut records[..a],
         &mut index[..b],
-        lists::front_runs(opened, l.opened),
-        lists::front_runs(held, l.held),
-        fields::part(runs, 0, l.runs),
-        lists::front_runs(table, l.table),
+        lists::front_runs(opened, cell.opened.length),
+        lists::front_runs(held, cell.held.length),
+        fields::part(runs, 0, shared.runs.length),
+        lists::front_runs(table, shared.table),
     )
 }
 
@@ -189,12 +194,12 @@ pub(crate) fn add(
     from: usize,
     ids: &mut Ids,
     records: &mut File,
-    index: &mut Words,
-    opened: &Half,
-    held: &Half,
+    index: &mut Words64k,
+    opened: &Words32k,
+    held: &Words32k,
     runs: &File,
-    table: &Half,
-) -> Said {
+    table: &Words32k,
+) -> Outcome {
     match parse::numbered_ids(words, from, ids) {
         Numbered::Wrong(f) => wrong(store, f),
         Numbered::Done { number, count } => told(add_to(
@@ -226,20 +231,21 @@ fn join_to(
     runs: &[u8],
     table: &[u64],
 ) -> Told {
-    let l = store.lengths;
-    let c = least(l.opened, opened.len());
-    let d = least(l.held, held.len());
+    let cell = store.cell;
+    let shared = store.shared;
+    let c = at_most(cell.opened.length, opened.len());
+    let d = at_most(cell.held.length, held.len());
     store.join(
         number,
         n,
         reversed,
         piece,
-        fields::part(records, 0, l.records),
-        lists::front_runs(index, l.index),
+        fields::part(records, 0, cell.records.length),
+        lists::front_runs(index, cell.index),
         &mut opened[..c],
         &mut held[..d],
-        fields::part(runs, 0, l.runs),
-        lists::front_runs(table, l.table),
+        fields::part(runs, 0, shared.runs.length),
+        lists::front_runs(table, shared.table),
     )
 }
 
@@ -248,14 +254,14 @@ pub(crate) fn join(
     store: Store,
     words: &[u8],
     from: usize,
-    piece: &mut Words,
+    piece: &mut Words64k,
     records: &File,
-    index: &Words,
-    opened: &mut Half,
-    held: &mut Half,
+    index: &Words64k,
+    opened: &mut Words32k,
+    held: &mut Words32k,
     runs: &File,
-    table: &Half,
-) -> Said {
+    table: &Words32k,
+) -> Outcome {
     match parse::piece_in(words, from, piece) {
         Piece::Wrong(f) => wrong(store, f),
         Piece::Done {
@@ -292,16 +298,17 @@ fn close_to(
     runs: &mut [u8],
     table: &mut [u64],
 ) -> Told {
-    let l = store.lengths;
-    let e = least(l.runs, runs.len());
-    let f = least(l.table, table.len());
+    let cell = store.cell;
+    let shared = store.shared;
+    let e = at_most(shared.runs.length, runs.len());
+    let f = at_most(shared.table, table.len());
     store.close(
         number,
         way,
-        fields::part(records, 0, l.records),
-        lists::front_runs(index, l.index),
-        lists::front_runs(opened, l.opened),
-        lists::front_runs(held, l.held),
+        fields::part(records, 0, cell.records.length),
+        lists::front_runs(index, cell.index),
+        lists::front_runs(opened, cell.opened.length),
+        lists::front_runs(held, cell.held.length),
         &mut runs[..e],
         &mut table[..f],
     )
@@ -313,15 +320,15 @@ pub(crate) fn close(
     words: &[u8],
     from: usize,
     records: &File,
-    index: &Words,
-    opened: &Half,
-    held: &Half,
+    index: &Words64k,
+    opened: &Words32k,
+    held: &Words32k,
     runs: &mut File,
-    table: &mut Half,
-) -> Said {
+    table: &mut Words32k,
+) -> Outcome {
     match parse::end_in(words, from) {
-        Ended::Wrong(f) => wrong(store, f),
-        Ended::Done { number, way } => told(close_to(
+        Closing::Wrong(f) => wrong(store, f),
+        Closing::Done { number, way } => told(close_to(
             store,
             number,
             way,
@@ -345,10 +352,10 @@ fn ids_of(answer: Answer) -> Reply {
     }
 }
 
-fn shown(t: Told) -> Said {
+fn shown(t: Told) -> Outcome {
     let store = t.store;
     let answer = t.answer;
-    Said {
+    Outcome {
         store,
         reply: ids_of(answer),
     }
@@ -367,18 +374,19 @@ fn show_of(
     runs: &[u8],
     table: &[u64],
 ) -> Told {
-    let l = store.lengths;
-    let r = least(room, ids.len());
+    let cell = store.cell;
+    let shared = store.shared;
+    let r = at_most(room, ids.len());
     store.show(
         unitig,
         vertex,
         &mut ids[..r],
-        fields::part(records, 0, l.records),
-        lists::front_runs(index, l.index),
-        lists::front_runs(opened, l.opened),
-        lists::front_runs(held, l.held),
-        fields::part(runs, 0, l.runs),
-        lists::front_runs(table, l.table),
+        fields::part(records, 0, cell.records.length),
+        lists::front_runs(index, cell.index),
+        lists::front_runs(opened, cell.opened.length),
+        lists::front_runs(held, cell.held.length),
+        fields::part(runs, 0, shared.runs.length),
+        lists::front_runs(table, shared.table),
     )
 }
 
@@ -389,12 +397,12 @@ pub(crate) fn show(
     from: usize,
     ids: &mut Ids,
     records: &File,
-    index: &Words,
-    opened: &Half,
-    held: &Half,
+    index: &Words64k,
+    opened: &Words32k,
+    held: &Words32k,
     runs: &File,
-    table: &Half,
-) -> Said {
+    table: &Words32k,
+) -> Outcome {
     match parse::vertex_in(words, from, ids) {
         Vertex::Wrong(f) => wrong(store, f),
         Vertex::Done {

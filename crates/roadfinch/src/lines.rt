@@ -1,6 +1,6 @@
 // Input in chunks, chunks to lines, and what a line asks for.
-use crate::buffers::Chunk;
-use crate::buffers::Line;
+use crate::buffers::IoBuffer;
+use crate::buffers::LineBuffer;
 use crate::replies::Reply;
 use shell::classes;
 use shell::classes::Class;
@@ -12,7 +12,7 @@ use shell::reasons::Fault;
 use shell::texts;
 
 // Where the input stands.
-pub struct Place {
+pub struct InputState {
     // the line that is read: its number, its bytes so far, and whether they are all
     pub number: u64,
     pub used: usize,
@@ -25,8 +25,8 @@ pub struct Place {
     pub ended: bool,
 }
 
-pub(crate) fn beginning() -> Place {
-    Place {
+pub(crate) fn beginning() -> InputState {
+    InputState {
         number: 1,
         used: 0,
         whole: false,
@@ -38,9 +38,9 @@ pub(crate) fn beginning() -> Place {
 }
 
 // A whole line was answered when the next bytes are taken.
-pub(crate) fn next_line(p: Place) -> Place {
+pub(crate) fn next_line(p: InputState) -> InputState {
     if p.whole {
-        return Place {
+        return InputState {
             number: std::num::wrapping_add_u64(p.number, 1),
             used: 0,
             whole: false,
@@ -54,9 +54,9 @@ pub(crate) fn next_line(p: Place) -> Place {
 }
 
 // The bytes of a chunk up to the next line end, behind those of the line that are there.
-pub(crate) fn keep(p: Place, chunk: &[u8], line: &mut Line) -> Place {
+pub(crate) fn keep(p: InputState, chunk: &[u8], line: &mut LineBuffer) -> InputState {
     let end = classes::span(chunk, p.from, Class::Line);
-    Place {
+    InputState {
         number: p.number,
         used: texts::put(fields::part(chunk, p.from, end), p.used, line),
         whole: end < chunk.len(),
@@ -68,7 +68,7 @@ pub(crate) fn keep(p: Place, chunk: &[u8], line: &mut Line) -> Place {
 }
 
 // Reads once: how many bytes came, none where the input ends.
-fn more(input: &mut Chunk) -> usize {
+fn more(input: &mut IoBuffer) -> usize {
     let got = libc::read(0, input);
     if got < 0 {
         os::fail(b"standard input");
@@ -78,13 +78,13 @@ fn more(input: &mut Chunk) -> usize {
 }
 
 // The line end that closes a last line that has none.
-fn line_end(input: &mut Chunk) -> usize {
+fn line_end(input: &mut IoBuffer) -> usize {
     input[0] = 10;
     1
 }
 
-fn with_input(p: Place, got: usize, last: bool, ended: bool) -> Place {
-    Place {
+fn with_input(p: InputState, got: usize, last: bool, ended: bool) -> InputState {
+    InputState {
         number: p.number,
         used: p.used,
         whole: p.whole,
@@ -96,7 +96,7 @@ fn with_input(p: Place, got: usize, last: bool, ended: bool) -> Place {
 }
 
 // The next bytes of input, behind the last of which one line end more stands.
-pub(crate) fn fetch(p: Place, input: &mut Chunk) -> Place {
+pub(crate) fn fetch(p: InputState, input: &mut IoBuffer) -> InputState {
     if p.last {
         return with_input(p, 0, true, true);
     }
@@ -108,7 +108,7 @@ pub(crate) fn fetch(p: Place, input: &mut Chunk) -> Place {
 }
 
 // What a line asks for. The words of the five calls, of encode and of decode are read when they are done.
-pub enum Deed {
+pub enum Action {
     Start,
     Add,
     Join,
@@ -120,27 +120,27 @@ pub enum Deed {
     Say(Reply),
 }
 
-// A deed, and from where to where its words stand.
+// A action, and from where to where its words stand.
 pub struct Order {
-    pub deed: Deed,
+    pub action: Action,
     pub from: usize,
     pub end: usize,
 }
 
 // The reply of a command that takes no words.
-fn alone(reply: Reply, words: &[u8], from: usize) -> Deed {
+fn alone(reply: Reply, words: &[u8], from: usize) -> Action {
     match fields::next_field(words, from) {
-        Field::Nothing => Deed::Say(reply),
-        Field::At { start: _, end: _ } => Deed::Say(Reply::Wrong(Fault::Extra)),
+        Field::Nothing => Action::Say(reply),
+        Field::At { start: _, end: _ } => Action::Say(Reply::Wrong(Fault::Extra)),
     }
 }
 
 // A call of the store, if there is one.
-fn call(deed: Deed, started: bool) -> Deed {
+fn call(action: Action, started: bool) -> Action {
     if started {
-        return deed;
+        return action;
     }
-    Deed::Say(Reply::Wrong(Fault::Unstarted))
+    Action::Say(Reply::Wrong(Fault::Unstarted))
 }
 
 // What the store holds, if there is one.
@@ -151,17 +151,17 @@ fn view(command: Command, started: bool) -> Reply {
     Reply::Wrong(Fault::Unstarted)
 }
 
-fn deed_of(command: Command, started: bool, words: &[u8], from: usize) -> Deed {
+fn action_of(command: Command, started: bool, words: &[u8], from: usize) -> Action {
     match command {
-        Command::Start => Deed::Start,
-        Command::Add => call(Deed::Add, started),
-        Command::Join => call(Deed::Join, started),
-        Command::Close => call(Deed::Close, started),
-        Command::Show => call(Deed::Show, started),
-        Command::Encode => Deed::Encode,
-        Command::Decode => Deed::Decode,
+        Command::Start => Action::Start,
+        Command::Add => call(Action::Add, started),
+        Command::Join => call(Action::Join, started),
+        Command::Close => call(Action::Close, started),
+        Command::Show => call(Action::Show, started),
+        Command::Encode => Action::Encode,
+        Command::Decode => Action::Decode,
         Command::Help => alone(Reply::Help, words, from),
-        Command::Unknown => Deed::Say(Reply::Wrong(Fault::Unknown)),
+        Command::Unknown => Action::Say(Reply::Wrong(Fault::Unknown)),
         _ => alone(view(command, started), words, from),
     }
 }
@@ -170,12 +170,12 @@ fn deed_of(command: Command, started: bool, words: &[u8], from: usize) -> Deed {
 fn order_in(started: bool, words: &[u8]) -> Order {
     match fields::next_field(words, 0) {
         Field::Nothing => Order {
-            deed: Deed::Say(Reply::Nothing),
+            action: Action::Say(Reply::Nothing),
             from: 0,
             end: 0,
         },
         Field::At { start, end } => Order {
-            deed: deed_of(
+            action: action_of(
                 commands::command_of(fields::part(words, start, end)),
                 started,
                 words,
@@ -188,17 +188,17 @@ fn order_in(started: bool, words: &[u8]) -> Order {
 }
 
 // What the line asks for, if it is whole. A full line buffer says that the line was too long for it.
-pub(crate) fn asked_by(p: Place, started: bool, line: &[u8]) -> Order {
+pub(crate) fn asked_by(p: InputState, started: bool, line: &[u8]) -> Order {
     if !p.whole {
         return Order {
-            deed: Deed::Say(Reply::Nothing),
+            action: Action::Say(Reply::Nothing),
             from: 0,
             end: 0,
         };
     }
     if line.len() <= p.used {
         return Order {
-            deed: Deed::Say(Reply::Wrong(Fault::Long)),
+            action: Action::Say(Reply::Wrong(Fault::Long)),
             from: 0,
             end: 0,
         };

@@ -10,44 +10,49 @@ mod say; // answers into the output buffer
 mod help; // what help says
 mod views; // what the store holds
 
-use crate::buffers::Chunk;
 use crate::buffers::File;
-use crate::buffers::Half;
 use crate::buffers::Ids;
-use crate::buffers::Line;
+use crate::buffers::IoBuffer;
+use crate::buffers::LineBuffer;
 use crate::buffers::Space;
-use crate::buffers::Words;
-use crate::lines::Deed;
+use crate::buffers::Words32k;
+use crate::buffers::Words64k;
+use crate::lines::Action;
+use crate::lines::InputState;
 use crate::lines::Order;
-use crate::lines::Place;
+use crate::replies::Outcome;
 use crate::replies::Reply;
-use crate::replies::Said;
 use shell::commands::Command;
 use shell::fields;
 use shell::lists;
 use store::state::Store;
 
 // What is kept from turn to turn: where the input stands, the store, and how many bytes of answers wait.
-pub struct Desk {
-    pub place: Place,
+pub struct Session {
+    pub place: InputState,
     pub store: Store,
     pub at: usize,
 }
 
 // The next part of a line. Where no input is left the answers go out before more is read, so that who waits for one has it.
-fn advance(desk: Desk, input: &mut Chunk, line: &mut Line, out: &Chunk) -> Desk {
-    let stood = desk.place;
-    let store = desk.store;
+fn advance(
+    session: Session,
+    input: &mut IoBuffer,
+    line: &mut LineBuffer,
+    out: &IoBuffer,
+) -> Session {
+    let stood = session.place;
+    let store = session.store;
     let place = lines::next_line(stood);
     if place.from < place.got {
-        return Desk {
+        return Session {
             place: lines::keep(place, fields::part(input, 0, place.got), line),
             store,
-            at: desk.at,
+            at: session.at,
         };
     }
-    say::flush(desk.at, out);
-    Desk {
+    say::flush(session.at, out);
+    Session {
         place: lines::fetch(place, input),
         store,
         at: 0,
@@ -55,25 +60,25 @@ fn advance(desk: Desk, input: &mut Chunk, line: &mut Line, out: &Chunk) -> Desk 
 }
 
 // Does what a line asks for.
-fn obey(
+fn execute(
     store: Store,
     order: Order,
-    line: &Line,
+    line: &LineBuffer,
     ids: &mut Ids,
-    piece: &mut Words,
+    piece: &mut Words64k,
     space: &mut Space,
     records: &mut File,
-    index: &mut Words,
-    opened: &mut Half,
-    held: &mut Half,
+    index: &mut Words64k,
+    opened: &mut Words32k,
+    held: &mut Words32k,
     runs: &mut File,
-    table: &mut Half,
-) -> Said {
-    let deed = order.deed;
+    table: &mut Words32k,
+) -> Outcome {
+    let action = order.action;
     let from = order.from;
     let words = fields::part(line, 0, order.end);
-    match deed {
-        Deed::Start => calls::start(
+    match action {
+        Action::Start => calls::start(
             store,
             words,
             from,
@@ -85,7 +90,7 @@ fn obey(
             runs,
             table,
         ),
-        Deed::Add => calls::add(
+        Action::Add => calls::add(
             store,
             words,
             from,
@@ -97,7 +102,7 @@ fn obey(
             runs,
             table,
         ),
-        Deed::Join => calls::join(
+        Action::Join => calls::join(
             store,
             words,
             from,
@@ -109,7 +114,7 @@ fn obey(
             runs,
             table,
         ),
-        Deed::Close => calls::close(
+        Action::Close => calls::close(
             store,
             words,
             from,
@@ -120,7 +125,7 @@ fn obey(
             runs,
             table,
         ),
-        Deed::Show => calls::show(
+        Action::Show => calls::show(
             store,
             words,
             from,
@@ -132,15 +137,15 @@ fn obey(
             runs,
             table,
         ),
-        Deed::Encode => Said {
+        Action::Encode => Outcome {
             store,
             reply: sets::encode(words, from, ids, space),
         },
-        Deed::Decode => Said {
+        Action::Decode => Outcome {
             store,
             reply: sets::decode(words, from, ids, space),
         },
-        Deed::Say(reply) => Said { store, reply },
+        Action::Say(reply) => Outcome { store, reply },
     }
 }
 
@@ -149,12 +154,12 @@ fn view(
     store: Store,
     command: Command,
     records: &File,
-    index: &Words,
+    index: &Words64k,
     runs: &File,
-    table: &Half,
-    piece: &mut Words,
+    table: &Words32k,
+    piece: &mut Words64k,
     at: usize,
-    out: &mut Chunk,
+    out: &mut IoBuffer,
 ) -> usize {
     match command {
         Command::Records => views::records(store, records, at, out),
@@ -172,12 +177,12 @@ fn print(
     ids: &Ids,
     space: &Space,
     records: &File,
-    index: &Words,
+    index: &Words64k,
     runs: &File,
-    table: &Half,
-    piece: &mut Words,
+    table: &Words32k,
+    piece: &mut Words64k,
     at: usize,
-    out: &mut Chunk,
+    out: &mut IoBuffer,
 ) -> usize {
     match reply {
         Reply::Nothing => at,
@@ -193,22 +198,22 @@ fn print(
 
 // A whole line is answered; any other waits for more bytes.
 fn answer(
-    desk: Desk,
-    line: &Line,
+    session: Session,
+    line: &LineBuffer,
     ids: &mut Ids,
-    piece: &mut Words,
+    piece: &mut Words64k,
     space: &mut Space,
     records: &mut File,
-    index: &mut Words,
-    opened: &mut Half,
-    held: &mut Half,
+    index: &mut Words64k,
+    opened: &mut Words32k,
+    held: &mut Words32k,
     runs: &mut File,
-    table: &mut Half,
-    out: &mut Chunk,
-) -> Desk {
-    let place = desk.place;
-    let before = desk.store;
-    let said = obey(
+    table: &mut Words32k,
+    out: &mut IoBuffer,
+) -> Session {
+    let place = session.place;
+    let before = session.store;
+    let outcome = execute(
         before,
         lines::asked_by(place, 0 < before.colors, line),
         line,
@@ -222,9 +227,9 @@ fn answer(
         runs,
         table,
     );
-    let store = said.store;
-    let reply = said.reply;
-    Desk {
+    let store = outcome.store;
+    let reply = outcome.reply;
+    Session {
         place,
         store,
         at: print(
@@ -238,7 +243,7 @@ fn answer(
             runs,
             table,
             piece,
-            desk.at,
+            session.at,
             out,
         ),
     }
@@ -246,33 +251,33 @@ fn answer(
 
 // Nothing says that the input ends: the turns are counted down from a number that no run uses up.
 fn run(
-    input: &mut Chunk,
-    line: &mut Line,
+    input: &mut IoBuffer,
+    line: &mut LineBuffer,
     ids: &mut Ids,
-    piece: &mut Words,
+    piece: &mut Words64k,
     space: &mut Space,
     records: &mut File,
-    index: &mut Words,
-    opened: &mut Half,
-    held: &mut Half,
+    index: &mut Words64k,
+    opened: &mut Words32k,
+    held: &mut Words32k,
     runs: &mut File,
-    table: &mut Half,
-    out: &mut Chunk,
+    table: &mut Words32k,
+    out: &mut IoBuffer,
 ) {
-    let mut desk = Desk {
+    let mut session = Session {
         place: lines::beginning(),
         store: replies::unstarted(),
         at: 0,
     };
     let mut turns = u64::MAX;
     while turns > 0 {
-        let place = desk.place;
+        let place = session.place;
         if place.ended {
             return;
         }
         turns -= 1;
-        desk = answer(
-            advance(desk, input, line, out),
+        session = answer(
+            advance(session, input, line, out),
             line,
             ids,
             piece,

@@ -1,6 +1,6 @@
 // The words of each command as its arguments.
 use crate::buffers::Ids;
-use crate::buffers::Words;
+use crate::buffers::Words64k;
 use shell::fields;
 use shell::fields::Field;
 use shell::lists;
@@ -27,7 +27,7 @@ pub enum Piece {
 }
 
 // A number and a way to close.
-pub enum Ended {
+pub enum Closing {
     Done { number: u32, way: Way },
     Wrong(Fault),
 }
@@ -43,13 +43,13 @@ pub enum Vertex {
 }
 
 // The one word that ends a line.
-pub enum Word {
+pub enum LastWord {
     At { start: usize, end: usize },
     Wrong(Fault),
 }
 
 // A number, and where its word ends.
-pub enum Next {
+pub enum NumberAt {
     At { value: u32, next: usize },
     Wrong(Fault),
 }
@@ -62,11 +62,11 @@ pub enum Choice {
 }
 
 // The number that stands next.
-pub(crate) fn number_at(words: &[u8], from: usize) -> Next {
+pub(crate) fn number_at(words: &[u8], from: usize) -> NumberAt {
     match lists::id_at(words, from) {
-        Item::Nothing => Next::Wrong(Fault::Missing),
-        Item::Wrong(f) => Next::Wrong(f),
-        Item::Value { value, next } => Next::At {
+        Item::Nothing => NumberAt::Wrong(Fault::Missing),
+        Item::Wrong(f) => NumberAt::Wrong(f),
+        Item::Value { value, next } => NumberAt::At {
             value: lists::narrow(value),
             next,
         },
@@ -118,8 +118,8 @@ fn ids_behind(number: u32, words: &[u8], from: usize, ids: &mut Ids) -> Numbered
 // NUMBER ID..
 pub(crate) fn numbered_ids(words: &[u8], from: usize, ids: &mut Ids) -> Numbered {
     match number_at(words, from) {
-        Next::Wrong(f) => Numbered::Wrong(f),
-        Next::At { value, next } => ids_behind(value, words, next, ids),
+        NumberAt::Wrong(f) => Numbered::Wrong(f),
+        NumberAt::At { value, next } => ids_behind(value, words, next, ids),
     }
 }
 
@@ -147,7 +147,7 @@ fn runs_behind(
     reversed: bool,
     words: &[u8],
     from: usize,
-    piece: &mut Words,
+    piece: &mut Words64k,
 ) -> Piece {
     match lists::runs_at(words, from, piece) {
         Listed::Wrong(f) => Piece::Wrong(f),
@@ -160,7 +160,7 @@ fn runs_behind(
     }
 }
 
-fn piece_way(number: u32, n: u32, words: &[u8], from: usize, piece: &mut Words) -> Piece {
+fn piece_way(number: u32, n: u32, words: &[u8], from: usize, piece: &mut Words64k) -> Piece {
     match choose(words, from, b"forward", b"reverse") {
         Choice::Wrong(f) => Piece::Wrong(f),
         Choice::First(next) => runs_behind(number, n, false, words, next, piece),
@@ -168,63 +168,63 @@ fn piece_way(number: u32, n: u32, words: &[u8], from: usize, piece: &mut Words) 
     }
 }
 
-fn piece_count(number: u32, words: &[u8], from: usize, piece: &mut Words) -> Piece {
+fn piece_count(number: u32, words: &[u8], from: usize, piece: &mut Words64k) -> Piece {
     match number_at(words, from) {
-        Next::Wrong(f) => Piece::Wrong(f),
-        Next::At { value, next } => piece_way(number, value, words, next, piece),
+        NumberAt::Wrong(f) => Piece::Wrong(f),
+        NumberAt::At { value, next } => piece_way(number, value, words, next, piece),
     }
 }
 
 // NUMBER COUNT forward|reverse OFFSET:COORDINATE..
-pub(crate) fn piece_in(words: &[u8], from: usize, piece: &mut Words) -> Piece {
+pub(crate) fn piece_in(words: &[u8], from: usize, piece: &mut Words64k) -> Piece {
     match number_at(words, from) {
-        Next::Wrong(f) => Piece::Wrong(f),
-        Next::At { value, next } => piece_count(value, words, next, piece),
+        NumberAt::Wrong(f) => Piece::Wrong(f),
+        NumberAt::At { value, next } => piece_count(value, words, next, piece),
     }
 }
 
 // Nothing but the end of the line.
-fn line_end(number: u32, way: Way, words: &[u8], from: usize) -> Ended {
+fn line_end(number: u32, way: Way, words: &[u8], from: usize) -> Closing {
     match fields::next_field(words, from) {
-        Field::Nothing => Ended::Done { number, way },
-        Field::At { start: _, end: _ } => Ended::Wrong(Fault::Extra),
+        Field::Nothing => Closing::Done { number, way },
+        Field::At { start: _, end: _ } => Closing::Wrong(Fault::Extra),
     }
 }
 
-fn pivot_in(number: u32, words: &[u8], from: usize) -> Ended {
+fn pivot_in(number: u32, words: &[u8], from: usize) -> Closing {
     match number_at(words, from) {
-        Next::Wrong(f) => Ended::Wrong(f),
-        Next::At { value, next } => line_end(number, Way::Cycle { pivot: value }, words, next),
+        NumberAt::Wrong(f) => Closing::Wrong(f),
+        NumberAt::At { value, next } => line_end(number, Way::Cycle { pivot: value }, words, next),
     }
 }
 
-fn way_in(number: u32, words: &[u8], from: usize) -> Ended {
+fn way_in(number: u32, words: &[u8], from: usize) -> Closing {
     match choose(words, from, b"line", b"cycle") {
-        Choice::Wrong(f) => Ended::Wrong(f),
+        Choice::Wrong(f) => Closing::Wrong(f),
         Choice::First(next) => line_end(number, Way::Line, words, next),
         Choice::Second(next) => pivot_in(number, words, next),
     }
 }
 
 // NUMBER line · NUMBER cycle PIVOT
-pub(crate) fn end_in(words: &[u8], from: usize) -> Ended {
+pub(crate) fn end_in(words: &[u8], from: usize) -> Closing {
     match number_at(words, from) {
-        Next::Wrong(f) => Ended::Wrong(f),
-        Next::At { value, next } => way_in(value, words, next),
+        NumberAt::Wrong(f) => Closing::Wrong(f),
+        NumberAt::At { value, next } => way_in(value, words, next),
     }
 }
 
-fn word_alone(words: &[u8], start: usize, end: usize) -> Word {
+fn word_alone(words: &[u8], start: usize, end: usize) -> LastWord {
     match fields::next_field(words, end) {
-        Field::Nothing => Word::At { start, end },
-        Field::At { start: _, end: _ } => Word::Wrong(Fault::Extra),
+        Field::Nothing => LastWord::At { start, end },
+        Field::At { start: _, end: _ } => LastWord::Wrong(Fault::Extra),
     }
 }
 
 // The next word, if it is the last.
-pub(crate) fn last_word(words: &[u8], from: usize) -> Word {
+pub(crate) fn last_word(words: &[u8], from: usize) -> LastWord {
     match fields::next_field(words, from) {
-        Field::Nothing => Word::Wrong(Fault::Missing),
+        Field::Nothing => LastWord::Wrong(Fault::Missing),
         Field::At { start, end } => word_alone(words, start, end),
     }
 }

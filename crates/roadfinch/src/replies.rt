@@ -2,37 +2,38 @@
 use base::Refusal;
 use shell::commands::Command;
 use shell::reasons::Fault;
+use store::state::Cell;
 use store::state::Current;
+use store::state::Extent;
 use store::state::Last;
-use store::state::Lengths;
+use store::state::Shared;
 use store::state::Store;
-use store::state::Used;
+
+fn empty() -> Extent {
+    Extent { length: 0, used: 0 }
+}
 
 // The store before an accepted start: it has no colours, as no started store has.
 pub(crate) fn unstarted() -> Store {
     Store {
         colors: 0,
-        worker: 0,
-        lengths: Lengths {
-            records: 0,
+        cell: Cell {
+            worker: 0,
+            records: empty(),
             index: 0,
-            opened: 0,
-            held: 0,
-            runs: 0,
-            table: 0,
-        },
-        used: Used {
-            records: 0,
             sets: 0,
-            opened: 0,
-            held: 0,
-            runs: 0,
+            opened: empty(),
+            held: empty(),
+            current: Current::Nothing,
+            number: 0,
+            last: Last::Fresh,
+            answer: 0,
+        },
+        shared: Shared {
+            runs: empty(),
+            table: 0,
             unitigs: 0,
         },
-        current: Current::Nothing,
-        number: 0,
-        last: Last::Fresh,
-        answer: 0,
     }
 }
 
@@ -51,13 +52,14 @@ pub enum Reply {
     Wrong(Fault),
 }
 
-pub struct Said {
+// The state after a line, and its reply.
+pub struct Outcome {
     pub store: Store,
     pub reply: Reply,
 }
 
-pub(crate) fn wrong(store: Store, fault: Fault) -> Said {
-    Said {
+pub(crate) fn wrong(store: Store, fault: Fault) -> Outcome {
+    Outcome {
         store,
         reply: Reply::Wrong(fault),
     }

@@ -2,8 +2,8 @@
 use crate::buffers::Ids;
 use crate::buffers::Space;
 use crate::parse;
-use crate::parse::Next;
-use crate::parse::Word;
+use crate::parse::LastWord;
+use crate::parse::NumberAt;
 use crate::replies::Reply;
 use base::Given;
 use base::Written;
@@ -32,8 +32,8 @@ fn encode_ids(n: u32, words: &[u8], from: usize, ids: &mut Ids, space: &mut Spac
 // encode N ID..
 pub(crate) fn encode(words: &[u8], from: usize, ids: &mut Ids, space: &mut Space) -> Reply {
     match parse::number_at(words, from) {
-        Next::At { value, next } => encode_ids(value, words, next, ids, space),
-        Next::Wrong(f) => Reply::Wrong(f),
+        NumberAt::At { value, next } => encode_ids(value, words, next, ids, space),
+        NumberAt::Wrong(f) => Reply::Wrong(f),
     }
 }
 
@@ -55,15 +55,15 @@ fn decode_hex(n: u32, hex: &[u8], ids: &mut Ids, space: &mut Space) -> Reply {
 
 fn decode_word(n: u32, words: &[u8], from: usize, ids: &mut Ids, space: &mut Space) -> Reply {
     match parse::last_word(words, from) {
-        Word::At { start, end } => decode_hex(n, fields::part(words, start, end), ids, space),
-        Word::Wrong(f) => Reply::Wrong(f),
+        LastWord::At { start, end } => decode_hex(n, fields::part(words, start, end), ids, space),
+        LastWord::Wrong(f) => Reply::Wrong(f),
     }
 }
 
 // decode N HEX
 pub(crate) fn decode(words: &[u8], from: usize, ids: &mut Ids, space: &mut Space) -> Reply {
     match parse::number_at(words, from) {
-        Next::At { value, next } => decode_word(value, words, next, ids, space),
-        Next::Wrong(f) => Reply::Wrong(f),
+        NumberAt::At { value, next } => decode_word(value, words, next, ids, space),
+        NumberAt::Wrong(f) => Reply::Wrong(f),
     }
 }

@@ -1,8 +1,8 @@
 // What the store holds, in text.
-use crate::buffers::Chunk;
 use crate::buffers::File;
-use crate::buffers::Half;
-use crate::buffers::Words;
+use crate::buffers::IoBuffer;
+use crate::buffers::Words32k;
+use crate::buffers::Words64k;
 use crate::say;
 use base::Given;
 use shell::fields;
@@ -18,16 +18,16 @@ fn at_or(xs: &[u64], i: usize) -> u64 {
 }
 
 // The used bytes of the record file.
-pub(crate) fn records(store: Store, bytes: &File, at: usize, out: &mut Chunk) -> usize {
-    let used = store.used;
-    say::hex(fields::part(bytes, 0, used.records), at, out)
+pub(crate) fn records(store: Store, bytes: &File, at: usize, out: &mut IoBuffer) -> usize {
+    let cell = store.cell;
+    say::hex(fields::part(bytes, 0, cell.records.used), at, out)
 }
 
 // One entry more than there are sets.
-pub(crate) fn index(store: Store, entries: &Words, at: usize, out: &mut Chunk) -> usize {
-    let used = store.used;
+pub(crate) fn index(store: Store, entries: &Words64k, at: usize, out: &mut IoBuffer) -> usize {
+    let cell = store.cell;
     let a = say::text(b"ok", at, out);
-    let b = say::words(lists::front_runs(entries, used.sets as usize + 1), a, out);
+    let b = say::words(lists::front_runs(entries, cell.sets as usize + 1), a, out);
     say::newline(b, out)
 }
 
@@ -36,9 +36,9 @@ fn unitig(
     place: usize,
     n: u64,
     bytes: &[u8],
-    piece: &mut Words,
+    piece: &mut Words64k,
     at: usize,
-    out: &mut Chunk,
+    out: &mut IoBuffer,
 ) -> usize {
     let a = say::number(place as u64, at, out);
     let b = say::text(b" ", a, out);
@@ -56,14 +56,14 @@ fn unitig(
 pub(crate) fn unitigs(
     store: Store,
     files: &File,
-    table: &Half,
-    piece: &mut Words,
+    table: &Words32k,
+    piece: &mut Words64k,
     at: usize,
-    out: &mut Chunk,
+    out: &mut IoBuffer,
 ) -> usize {
-    let used = store.used;
-    let count = used.unitigs as usize;
-    let end = used.runs;
+    let shared = store.shared;
+    let count = shared.unitigs as usize;
+    let end = shared.runs.used;
     let mut to = say::done(count as u64, at, out);
     let mut i: usize = 0;
     while i < count {
@@ -82,14 +82,14 @@ pub(crate) fn unitigs(
 }
 
 // Behind the sets: the open unitig, and what is closed.
-fn unitig_sizes(now: Current, unitigs: u32, runs: usize, at: usize, out: &mut Chunk) -> usize {
+fn unitig_sizes(now: Current, unitigs: u32, runs: usize, at: usize, out: &mut IoBuffer) -> usize {
     let a = current(now, at, out);
     let b = say::named(b" unitigs ", unitigs as u64, a, out);
     let c = say::named(b" runs ", runs as u64, b, out);
     say::newline(c, out)
 }
 
-fn current(now: Current, at: usize, out: &mut Chunk) -> usize {
+fn current(now: Current, at: usize, out: &mut IoBuffer) -> usize {
     match now {
         Current::Nothing => say::text(b" open none", at, out),
         Current::Open(n) => say::named(b" open ", n as u64, at, out),
@@ -103,7 +103,7 @@ fn set_sizes(
     sets: u32,
     records: usize,
     at: usize,
-    out: &mut Chunk,
+    out: &mut IoBuffer,
 ) -> usize {
     let a = say::named(b"ok N ", colors as u64, at, out);
     let b = say::named(b" W ", worker as u64, a, out);
@@ -113,17 +113,18 @@ fn set_sizes(
 }
 
 // One line: what the store was started with, and how much it holds.
-pub(crate) fn state(store: Store, at: usize, out: &mut Chunk) -> usize {
-    let used = store.used;
-    let now = store.current;
+pub(crate) fn state(store: Store, at: usize, out: &mut IoBuffer) -> usize {
+    let cell = store.cell;
+    let shared = store.shared;
+    let now = cell.current;
     let a = set_sizes(
         store.colors,
-        store.worker,
-        store.number,
-        used.sets,
-        used.records,
+        cell.worker,
+        cell.number,
+        cell.sets,
+        cell.records.used,
         at,
         out,
     );
-    unitig_sizes(now, used.unitigs, used.runs, a, out)
+    unitig_sizes(now, shared.unitigs, shared.runs.used, a, out)
 }

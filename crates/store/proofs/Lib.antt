@@ -1,2 +1,3 @@
 pub mod Laws
+-- The page to read.
 pub mod Whole

@@ -1,5 +1,6 @@
 -- The page to read: each method meets its contract, whose right side is a step, and every list of steps after an accepted start keeps demand 3.
-use Rattle.store.specs.Demand.{DEMAND3, EXACTLY-ONCE}
+use Rattle.store.specs.Demand.{DEMAND3}
+use Rattle.store.specs.Once.{EXACTLY-ONCE}
 use Rattle.store.proofs.Laws.Proved.{DEMAND-3, ONCE-EACH}
 use Rattle.store.proofs.state.Store.start.Statement as start-s
 use Rattle.store.proofs.state.Store.start.Met as start-m

@@ -1,63 +1,74 @@
--- Add: 12, 2, 3; the record behind the used bytes and one index entry.
-use Prim.Native.Nat.{ℕ, _+_, _≤_, _<_}
-use mathlib.Core.Path.{_≡_}
+-- "What each operation turns down" of 01: add. 12, 2, 3; the record goes behind the used bytes, with one index entry.
+use Prim.Native.Nat.{ℕ, _+_}
 use mathlib.Core.Bool.{Bool, true, false, not, _||_}
 use mathlib.Core.List.{List, [], _∷_}
 use lib.ListN.{length, set}
-use lib.Dec.{ltb}
-use Rattle.base.specs.Answers.{Answer, done}
+use lib.Dec.{ltb, eqb}
+use Rattle.base.specs.Answers.{Answer, done, refused}
 use Rattle.base.specs.Tests.{_when_else_}
 use Rattle.base.specs.declared.Refusal.the-variants.{Ids, Opened, Space}
-use Rattle.codec.specs.Records.{badColors, recordOf}
+use Rattle.codec.specs.Records.{recordOf}
 use Rattle.codec.specs.Sets.{within}
 use Rattle.runs.specs.Words.{coordinateOf}
-use Rattle.store.specs.Gate.{byGate, gateThen, isOpened}
-use Rattle.store.specs.Plain.{add}
-use Rattle.store.specs.State.{Bufs, Outcome, after, bufs, put}
-use Rattle.store.specs.Tests.{aSet}
-use Rattle.store.specs.declared.gate.Gate.{Gate}
-use Rattle.store.specs.declared.gate.Gate.the-variants.{Go, Refuse}
-use Rattle.store.specs.declared.state.Store.{Store}
-use Rattle.store.specs.declared.state.Used.{Used}
+use Rattle.store.specs.Altered.{altered}
+use Rattle.store.specs.Filed.{readsAs, setAt}
+use Rattle.store.specs.Numbered.{byGate, numbered}
+use Rattle.store.specs.State.{Bufs, Outcome, after, lengthsOf, put, withParts, withRecords}
+use Rattle.store.specs.declared.numbered.Gate.{Gate}
+use Rattle.store.specs.declared.numbered.Gate.the-variants.{Go, Refuse}
+use Rattle.store.specs.declared.state.Current.{Current}
+use Rattle.store.specs.declared.state.Current.the-variants.{Nothing, Open}
+use Rattle.store.specs.declared.state.Cell.{Cell}
+use Rattle.store.specs.declared.state.Last.{Last}
 use Rattle.store.specs.declared.state.Last.the-variants as last
+use Rattle.store.specs.declared.state.Store.{Store}
+
+unfoldable pub isOpened : Current → Bool
+isOpened Nothing = false
+isOpened (Open n) = true
+
+-- no ids, or not strictly ascending, or one not below N
+unfoldable pub badIds : ℕ → List ℕ → Bool
+badIds N ids = eqb (length ids) 0 || not (within 0 N ids)
 
 -- a record of so many bytes doesn't fit the rest of the file, or no index entry is free
-unfoldable pub noSpace : Store → ℕ → Bool
-noSpace s len = ltb (s .lengths .records) (s .used .records + len) || ltb (s .lengths .index) (s .used .sets + 2)
+unfoldable pub noSpace : Cell → ℕ → Bool
+noSpace c len = ltb (c .records .length) (c .records .used + len) || ltb (c .index) (c .sets + 2)
 
-unfoldable pub addTest : Store → List ℕ → Gate
-addTest s ids =
-    Refuse Opened when isOpened (s .current) else
-    Refuse Ids when not (aSet (s .colors) ids) else
-    Refuse Space when noSpace s (length (recordOf (s .colors) ids)) else
+unfoldable pub addTest : ℕ → Cell → List ℕ → Gate
+addTest N c ids =
+    -- 12, a unitig is open
+    Refuse Opened when isOpened (c .current) else
+    -- 2, as above or no ids
+    Refuse Ids when badIds N ids else
+    -- 3, the record doesn't fit the rest of the file, or no index entry is free
+    Refuse Space when noSpace c (length (recordOf N ids)) else
     Go
 
-abbrev pub addUsed : Used → ℕ → Used
-addUsed u len = record { records = u .records + len; sets = u .sets + 1; opened = u .opened; held = u .held; runs = u .runs; unitigs = u .unitigs }
+-- the last call was an add of these ids: they are compared with the record that its answer names
+unfoldable pub sameAdd : ℕ → Cell → (file index : List ℕ) → Last → List ℕ → Bool
+sameAdd N c file index last.Fresh ids = false
+sameAdd N c file index last.Add ids = readsAs (setAt N c file index (c .answer)) ids
+sameAdd N c file index (last.Join n r) ids = false
+sameAdd N c file index (last.Close v) ids = false
 
--- the answer, the state, the record file and the index
-unfoldable pub addFiled : Store → ℕ → List ℕ → (file index : List ℕ) → Answer × Store × List ℕ × List ℕ
-addFiled s i ids file index = (
-  done (coordinateOf (s .worker) (s .used .sets) ∷ []),
-  after s i last.Add (coordinateOf (s .worker) (s .used .sets)) (addUsed (s .used) (length (recordOf (s .colors) ids))) (s .current),
-  put (s .used .records) (recordOf (s .colors) ids) file,
-  set index (s .used .sets + 1) (s .used .records + length (recordOf (s .colors) ids)),
+-- the answer, the cell, the record file and the index
+unfoldable pub addFiled : ℕ → Cell → ℕ → List ℕ → (file index : List ℕ) → Answer × Cell × List ℕ × List ℕ
+addFiled N c i ids file index = (
+  done (coordinateOf (c .worker) (c .sets) ∷ []),
+  after c (c .records .used + length (recordOf N ids)) (c .sets + 1) (c .opened .used) (c .held .used) (c .current) i last.Add (coordinateOf (c .worker) (c .sets)),
+  put (c .records .used) (recordOf N ids) file,
+  set index (c .sets + 1) (c .records .used + length (recordOf N ids)),
 )
 
-abbrev pub addIn : Answer × Store × List ℕ × List ℕ → Bufs → Outcome
-addIn r b = (r .0, r .1, bufs (r .2) (r .3) (b .opened) (b .held) (b .runs) (b .table))
+unfoldable pub addCell : ℕ → Cell → ℕ → List ℕ → (file index : List ℕ) → Answer × Cell × List ℕ × List ℕ
+addCell N c i ids file index =
+    byGate (numbered c i (sameAdd N c file index (c .last) ids) (addTest N c ids)) (λ a. (a, c, file, index)) (addFiled N c i ids file index)
 
-abbrev pub addPut : Store → Bufs → ℕ → List ℕ → Outcome
-addPut s b i ids = addIn (addFiled s i ids (b .records) (b .index)) b
+abbrev pub afterAdd : Store → Bufs → Answer × Cell × List ℕ × List ℕ → Outcome
+afterAdd s b r = (r .0, withParts s (r .1) (s .shared), record { cell = withRecords (b .cell) (r .2) (r .3); shared = b .shared })
 
 unfoldable pub addStep : Store → Bufs → ℕ → List ℕ → Outcome
-addStep s b i ids = byGate (gateThen s b i (add ids) (addTest s ids)) s b (addPut s b i ids)
-
--- what is known where add may go
-pub record AddReady (s : Store) (ids : List ℕ) (records index : ℕ) : Type 0 where
-  pub colors : badColors (s .colors) ≡ false
-  pub isSet : within 0 (s .colors) ids ≡ true
-  pub room : s .used .records + length (recordOf (s .colors) ids) ≤ records
-  pub entry : s .used .sets + 1 < index
-  pub smallRecords : records ≤ 4294967295
-  pub smallIndex : index ≤ 4294967295
+addStep s b i ids =
+    (refused 15, s, b) when altered s (lengthsOf b) else
+    afterAdd s b (addCell (s .colors) (s .cell) i ids (b .cell .records) (b .cell .index))

@@ -1,14 +1,18 @@
--- The plain store (section 7), and what both stores test alike.
-pub mod Tests
+-- The plain store (01, section 7): what is right, over sets as id lists and unitigs as coordinates and starts.
 pub mod Plain
--- The store over its state and the six buffers, call by call.
+-- The store over its state and its buffers, call by call (01, "What each operation turns down").
 pub mod State
 pub mod Start
+pub mod Altered
+pub mod Numbered
 pub mod Filed
-pub mod Gate
 pub mod Add
 pub mod Join
 pub mod Close
 pub mod Show
--- Lists of calls.
+-- Lists of calls: demand 3.
 pub mod Demand
+-- A corollary of it: each call once.
+pub mod Once
+-- What serves the functions inside the crate and their proofs; no public contract rests on it alone.
+pub mod Inside

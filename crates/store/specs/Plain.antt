@@ -1,39 +1,35 @@
--- The plain store of section 7.
-use Prim.Native.Nat.{ℕ, zero, suc, _+_, _-_, _*_, _%_}
+-- Section 7 of 01: the plain store. It shares no test with the store over its buffers.
+use Prim.Native.Nat.{ℕ, zero, suc, _+_, _-_, _*_, _/_, _%_}
 use mathlib.Core.Bool.{Bool, true, false, not, _||_, _&&_}
 use mathlib.Core.List.{List, [], _∷_, _++_, map, reverse}
 use mathlib.Core.Option.{Option, none, some}
 use lib.ListN.{length, getD, drop}
 use lib.Dec.{ltb, leb, eqb}
 use Rattle.base.specs.Tests.{_when_else_}
-use Rattle.base.specs.Answers.{numberOf}
-use Rattle.base.specs.declared.Refusal.the-variants.{Ids, Space, Runs, Vertices, Junction, Coordinate, Arguments, Opened, Unopened}
 use Rattle.codec.specs.Flat.{flat}
-use Rattle.codec.specs.Records.{recordOf, fileOf, same}
-use Rattle.runs.specs.Words.{placeOf, coordinateOf}
+use Rattle.codec.specs.Records.{recordOf, fileOf}
+use Rattle.runs.specs.Words.{coordinate}
 use Rattle.runs.specs.Colours.{colours}
 use Rattle.runs.specs.Colours as runs
-use Rattle.runs.specs.Orders.{mostVertices, sharp}
-use Rattle.runs.specs.Rotate.{turn, firsts, runsAt}
+use Rattle.runs.specs.Rotate.{turnLeft, firsts, runsAt}
 use Rattle.runs.specs.Bytes.{runBytes}
-use Rattle.store.specs.Tests.{numberTurn, byTurn, repeated, alike, aSet, named}
-use Rattle.store.specs.declared.state.Lengths.{Lengths}
-use Rattle.store.specs.declared.state.Way.{Way}
-use Rattle.store.specs.declared.state.Way.the-variants.{Line, Cycle}
-use Rattle.store.specs.declared.gate.Gate.{Gate}
-use Rattle.store.specs.declared.gate.Gate.the-variants.{Refuse, Again, Go}
 
 -- ---- calls
 
--- a numbered call without its number: add ids; join n, whether reversed, runs; close as a line or as a cycle with its pivot
-pub data Deed : Type 0 where
-  add : List ℕ → Deed
-  join : ℕ → Bool → List ℕ → Deed
-  close : Way → Deed
+-- a unitig is closed as a line, or as a cycle with its pivot
+pub data Way : Type 0 where
+  line : Way
+  cycle : ℕ → Way
 
--- a deed with its number; show a unitig's vertex, into an output of so many places
+-- a numbered call without its number: add ids; join n, whether reversed, runs; close
+pub data Update : Type 0 where
+  add : List ℕ → Update
+  join : ℕ → Bool → List ℕ → Update
+  close : Way → Update
+
+-- an update with its number; show a unitig's vertex, into an output of so many places
 pub data Call : Type 0 where
-  deed : ℕ → Deed → Call
+  update : ℕ → Update → Call
   show : ℕ → ℕ → ℕ → Call
 
 -- ---- the state
@@ -43,28 +39,91 @@ pub record Unitig : Type 0 where
   pub coords : List ℕ
   pub starts : List ℕ
 
--- the last accepted number comes with its call and answer; the lengths are those of the buffers at start
-pub record Plain : Type 0 where
-  pub N : ℕ
+-- the lengths of the buffers given at start: a cell's, and those that cells share
+pub record CellLengths : Type 0 where
+  pub records : ℕ
+  pub index : ℕ
+  pub opened : ℕ
+  pub held : ℕ
+
+pub record SharedLengths : Type 0 where
+  pub runs : ℕ
+  pub table : ℕ
+
+pub record Lengths : Type 0 where
+  pub cell : CellLengths
+  pub shared : SharedLengths
+
+-- a cell's part: worker, accepted sets, the open unitig or none, the last accepted number with its call and answer
+pub record PlainCell : Type 0 where
   pub W : ℕ
   pub S : List (List ℕ)
-  pub closed : List Unitig
   pub current : Option Unitig
   pub last : ℕ
-  pub call : Option (Deed × ℕ)
-  pub lengths : Lengths
+  pub call : Option (Update × ℕ)
+  pub lengths : CellLengths
+
+pub record Plain : Type 0 where
+  pub N : ℕ
+  pub cell : PlainCell
+  pub closed : List Unitig
+  pub shared : SharedLengths
 
 -- a fresh store
 unfoldable pub plainFresh : ℕ → ℕ → Lengths → Plain
-plainFresh N W lengths = record { N = N; W = W; S = []; closed = []; current = none; last = 0; call = none; lengths = lengths }
+plainFresh N W l =
+    record {
+      N = N;
+      cell = record { W = W; S = []; current = none; last = 0; call = none; lengths = l .cell };
+      closed = [];
+      shared = l .shared;
+    }
+
+-- ---- tests
+
+unfoldable pub isEmpty : List ℕ → Bool
+isEmpty [] = true
+isEmpty (x ∷ xs) = false
+
+-- strictly ascending
+unfoldable pub ascendsFrom : ℕ → List ℕ → Bool
+ascendsFrom x [] = true
+ascendsFrom x (y ∷ ys) = ltb x y && ascendsFrom y ys
+
+unfoldable pub ascends : List ℕ → Bool
+ascends [] = true
+ascends (x ∷ xs) = ascendsFrom x xs
+
+unfoldable pub allBelow : ℕ → List ℕ → Bool
+allBelow n [] = true
+allBelow n (x ∷ xs) = ltb x n && allBelow n xs
+
+-- some ids, strictly ascending, each below N
+unfoldable pub isSet : ℕ → List ℕ → Bool
+isSet N ids = not (isEmpty ids) && ascends ids && allBelow N ids
+
+-- starts of a sharp list: some, the first at 0, strictly ascending, below n
+unfoldable pub areSharp : ℕ → List ℕ → Bool
+areSharp n starts = not (isEmpty starts) && eqb (getD starts 0 0) 0 && ascends starts && allBelow n starts
+
+-- coordinates of this worker (low 8 bits) with an index (the rest) below the number of sets
+unfoldable pub nameSets : ℕ → ℕ → List ℕ → Bool
+nameSets W sets [] = true
+nameSets W sets (c ∷ cs) = eqb (c % 256) W && ltb (c / 256) sets && nameSets W sets cs
+
+unfoldable pub equal : List ℕ → List ℕ → Bool
+equal [] [] = true
+equal [] (y ∷ ys) = false
+equal (x ∷ xs) [] = false
+equal (x ∷ xs) (y ∷ ys) = eqb x y && equal xs ys
 
 -- ---- join
 
 -- the starts but 0
-unfoldable pub later : List ℕ → List ℕ
-later [] = []
-later (zero ∷ ss) = later ss
-later (suc s ∷ ss) = suc s ∷ later ss
+unfoldable pub innerStarts : List ℕ → List ℕ
+innerStarts [] = []
+innerStarts (zero ∷ ss) = innerStarts ss
+innerStarts (suc s ∷ ss) = suc s ∷ innerStarts ss
 
 -- the piece expanded to n coordinates and its starts
 unfoldable pub expanded : ℕ → List ℕ → Unitig
@@ -72,7 +131,7 @@ expanded n piece = record { coords = colours n piece; starts = runs.starts piece
 
 -- the coordinates turned round, and each start s > 0 becomes n - s
 unfoldable pub turnedRound : ℕ → Unitig → Unitig
-turnedRound n u = record { coords = reverse (u .coords); starts = 0 ∷ reverse (map (λ (s : ℕ). n - s) (later (u .starts))) }
+turnedRound n u = record { coords = reverse (u .coords); starts = 0 ∷ reverse (map (λ (s : ℕ). n - s) (innerStarts (u .starts))) }
 
 unfoldable pub pieceOf : ℕ → Bool → List ℕ → Unitig
 pieceOf n true piece = turnedRound n (expanded n piece)
@@ -84,7 +143,7 @@ joined none piece = piece
 joined (some u) piece =
     record {
       coords = u .coords ++ drop 1 (piece .coords);
-      starts = u .starts ++ map (λ (s : ℕ). s + (length (u .coords) - 1)) (later (piece .starts));
+      starts = u .starts ++ map (λ (s : ℕ). s + (length (u .coords) - 1)) (innerStarts (piece .starts));
     }
 
 unfoldable pub newCount : Option Unitig → ℕ → ℕ
@@ -92,19 +151,19 @@ newCount none n = n
 newCount (some u) n = length (u .coords) + n - 1
 
 -- the last open coordinate differs from the piece's first
-unfoldable pub parts : Option Unitig → Unitig → Bool
-parts none piece = false
-parts (some u) piece = not (eqb (getD (u .coords) (length (u .coords) - 1) 0) (getD (piece .coords) 0 0))
+unfoldable pub differs : Option Unitig → Unitig → Bool
+differs none piece = false
+differs (some u) piece = not (eqb (getD (u .coords) (length (u .coords) - 1) 0) (getD (piece .coords) 0 0))
 
 -- ---- close
 
 -- a cycle is turned left by pivot mod n and its starts become 0 and each vertex unlike the one before
 unfoldable pub filed : Way → Unitig → Unitig
-filed Line u = u
-filed (Cycle pivot) u =
+filed line u = u
+filed (cycle pivot) u =
     record {
-      coords = turn (pivot % length (u .coords)) (u .coords);
-      starts = firsts (turn (pivot % length (u .coords)) (u .coords));
+      coords = turnLeft (pivot % length (u .coords)) (u .coords);
+      starts = firsts (turnLeft (pivot % length (u .coords)) (u .coords));
     }
 
 -- the run bytes of a unitig, and of closed unitigs in order
@@ -114,107 +173,135 @@ bytesOf u = runBytes (runsAt (u .coords) (u .starts))
 abbrev pub closedBytes : List Unitig → List ℕ
 closedBytes us = flat bytesOf us
 
--- ---- what each call turns down, in order
+-- ---- what each call turns down, in 01's order
+
+-- what is found of a numbered call: a refusal's number, the answer of the call that it repeats, or that it is accepted
+pub data Verdict : Type 0 where
+  refuse : ℕ → Verdict
+  repeat : ℕ → Verdict
+  accept : Verdict
 
 unfoldable pub isOpen : Option Unitig → Bool
 isOpen none = false
 isOpen (some u) = true
 
-unfoldable pub addTests : Plain → List ℕ → Gate
-addTests p ids =
-    Refuse Opened when isOpen (p .current) else
-    Refuse Ids when not (aSet (p .N) ids) else
-    Refuse Space when ltb (p .lengths .records) (length (fileOf (p .N) (p .S)) + length (recordOf (p .N) ids)) || ltb (p .lengths .index) (length (p .S) + 2) else
-    Go
+unfoldable pub addTests : ℕ → PlainCell → List ℕ → Verdict
+addTests N c ids =
+    -- 12, a unitig is open
+    refuse 12 when isOpen (c .current) else
+    -- 2, ids not strictly ascending or one not below N, or no ids
+    refuse 2 when not (isSet N ids) else
+    -- 3, the record doesn't fit the rest of the file, or no index entry is free
+    refuse 3 when ltb (c .lengths .records) (length (fileOf N (c .S)) + length (recordOf N ids)) || ltb (c .lengths .index) (length (c .S) + 2) else
+    accept
 
-unfoldable pub joinTests : Plain → ℕ → Bool → List ℕ → Gate
-joinTests p n reversed piece =
-    Refuse Vertices when eqb n 0 || ltb mostVertices (newCount (p .current) n) else
-    Refuse Runs when not (sharp n piece) else
-    Refuse Coordinate when not (named (p .W) (length (p .S)) piece) else
-    Refuse Junction when parts (p .current) (pieceOf n reversed piece) else
-    Refuse Space when ltb (p .lengths .opened) (length (joined (p .current) (pieceOf n reversed piece) .starts)) || ltb (p .lengths .held) (length piece) else
-    Go
+unfoldable pub joinTests : PlainCell → ℕ → Bool → List ℕ → Verdict
+joinTests c n reversed piece =
+    -- 7, n is 0 or new count above 16,777,215
+    refuse 7 when eqb n 0 || ltb 16777215 (newCount (c .current) n) else
+    -- 6, not sharp
+    refuse 6 when not (areSharp n (runs.starts piece)) else
+    -- 9, a coordinate with another worker or an index not below S's length
+    refuse 9 when not (nameSets (c .W) (length (c .S)) (map coordinate piece)) else
+    -- 8, last open coordinate differs from the oriented piece's first
+    refuse 8 when differs (c .current) (pieceOf n reversed piece) else
+    -- 3, open runs or held piece too short
+    refuse 3 when ltb (c .lengths .opened) (length (joined (c .current) (pieceOf n reversed piece) .starts)) || ltb (c .lengths .held) (length piece) else
+    accept
 
-unfoldable pub closeTests : Plain → Way → Option Unitig → Gate
-closeTests p way none = Refuse Unopened
-closeTests p way (some u) =
-    Refuse Space when ltb (p .lengths .runs) (length (closedBytes (p .closed)) + length (bytesOf (filed way u))) || ltb (p .lengths .table) (2 * length (p .closed) + 2) else
-    Go
+unfoldable pub closeTests : List Unitig → SharedLengths → Way → Option Unitig → Verdict
+-- 13, none open
+closeTests closed l way none = refuse 13
+closeTests closed l way (some u) =
+    -- 3, its run bytes or its two table numbers don't fit
+    refuse 3 when ltb (l .runs) (length (closedBytes closed) + length (bytesOf (filed way u))) || ltb (l .table) (2 * length closed + 2) else
+    accept
 
-unfoldable pub tests : Plain → Deed → Gate
-tests p (add ids) = addTests p ids
-tests p (join n reversed piece) = joinTests p n reversed piece
-tests p (close way) = closeTests p way (p .current)
+unfoldable pub tests : Plain → Update → Verdict
+tests p (add ids) = addTests (p .N) (p .cell) ids
+tests p (join n reversed piece) = joinTests (p .cell) n reversed piece
+tests p (close way) = closeTests (p .closed) (p .shared) way (p .cell .current)
 
 -- the same call with the same arguments
-unfoldable pub sameWay : Way → Way → Bool
-sameWay Line Line = true
-sameWay Line (Cycle q) = false
-sameWay (Cycle p) Line = false
-sameWay (Cycle p) (Cycle q) = eqb p q
+unfoldable pub equalWays : Way → Way → Bool
+equalWays line line = true
+equalWays line (cycle q) = false
+equalWays (cycle p) line = false
+equalWays (cycle p) (cycle q) = eqb p q
 
-unfoldable pub sameDeed : Deed → Deed → Bool
-sameDeed (add is) (add js) = same is js
-sameDeed (add is) (join m e qs) = false
-sameDeed (add is) (close w) = false
-sameDeed (join n d rs) (add js) = false
-sameDeed (join n d rs) (join m e qs) = eqb n m && alike d e && same rs qs
-sameDeed (join n d rs) (close w) = false
-sameDeed (close v) (add js) = false
-sameDeed (close v) (join m e qs) = false
-sameDeed (close v) (close w) = sameWay v w
+unfoldable pub bothOrNeither : Bool → Bool → Bool
+bothOrNeither true b = b
+bothOrNeither false b = not b
 
--- the last number: its answer again, or 11
-unfoldable pub again : Option (Deed × ℕ) → Deed → Gate
-again none d = Refuse Arguments
-again (some (e, answer)) d = repeated (sameDeed e d) answer
+unfoldable pub equalUpdates : Update → Update → Bool
+equalUpdates (add is) (add js) = equal is js
+equalUpdates (add is) (join m e qs) = false
+equalUpdates (add is) (close w) = false
+equalUpdates (join n d rs) (add js) = false
+equalUpdates (join n d rs) (join m e qs) = eqb n m && bothOrNeither d e && equal rs qs
+equalUpdates (join n d rs) (close w) = false
+equalUpdates (close v) (add js) = false
+equalUpdates (close v) (join m e qs) = false
+equalUpdates (close v) (close w) = equalWays v w
 
-unfoldable pub gate : Plain → ℕ → Deed → Gate
-gate p i d = byTurn (numberTurn (p .last) i) (again (p .call) d) (tests p d)
+-- the last number: its answer again; 11, on another call or with other arguments
+unfoldable pub again : Option (Update × ℕ) → Update → Verdict
+again none u = refuse 11
+again (some (last, answer)) u = repeat answer when equalUpdates last u else refuse 11
+
+unfoldable pub verdict : Plain → ℕ → Update → Verdict
+verdict p i u =
+    -- 10, number neither last nor last + 1, or 0
+    refuse 10 when eqb i 0 || not (eqb i (p .cell .last) || eqb i (p .cell .last + 1)) else
+    again (p .cell .call) u when eqb i (p .cell .last) else
+    tests p u
 
 -- ---- what an accepted call does
 
--- its answer, S, the closed unitigs, the open one
-unfoldable pub closeEffect : Plain → Way → Option Unitig → ℕ × List (List ℕ) × List Unitig × Option Unitig
-closeEffect p way none = (length (p .closed), p .S, p .closed, none)
-closeEffect p way (some u) = (length (p .closed), p .S, p .closed ++ (filed way u ∷ []), none)
+-- its answer, S, the open unitig, the closed ones
+unfoldable pub closeEffect : Plain → Way → Option Unitig → ℕ × List (List ℕ) × Option Unitig × List Unitig
+closeEffect p way none = (length (p .closed), p .cell .S, none, p .closed)
+closeEffect p way (some u) = (length (p .closed), p .cell .S, none, p .closed ++ (filed way u ∷ []))
 
-unfoldable pub effect : Plain → Deed → ℕ × List (List ℕ) × List Unitig × Option Unitig
-effect p (add ids) = (coordinateOf (p .W) (length (p .S)), p .S ++ (ids ∷ []), p .closed, p .current)
+unfoldable pub effect : Plain → Update → ℕ × List (List ℕ) × Option Unitig × List Unitig
+effect p (add ids) = (p .cell .W + 256 * length (p .cell .S), p .cell .S ++ (ids ∷ []), p .cell .current, p .closed)
 effect p (join n reversed piece) = (
-  length (joined (p .current) (pieceOf n reversed piece) .coords),
-  p .S,
+  length (joined (p .cell .current) (pieceOf n reversed piece) .coords),
+  p .cell .S,
+  some (joined (p .cell .current) (pieceOf n reversed piece)),
   p .closed,
-  some (joined (p .current) (pieceOf n reversed piece)),
 )
-effect p (close way) = closeEffect p way (p .current)
+effect p (close way) = closeEffect p way (p .cell .current)
 
-unfoldable pub accepted : Plain → ℕ → Deed → ℕ × List (List ℕ) × List Unitig × Option Unitig → Plain
-accepted p i d e =
+unfoldable pub accepted : Plain → ℕ → Update → ℕ × List (List ℕ) × Option Unitig × List Unitig → Plain
+accepted p i u e =
     record {
       N = p .N;
-      W = p .W;
-      S = e .1;
-      closed = e .2;
-      current = e .3;
-      last = i;
-      call = some (d, e .0);
-      lengths = p .lengths;
+      cell =
+          record {
+            W = p .cell .W;
+            S = e .1;
+            current = e .2;
+            last = i;
+            call = some (u, e .0);
+            lengths = p .cell .lengths;
+          };
+      closed = e .3;
+      shared = p .shared;
     }
 
 -- ---- one call, and a list of calls
 
--- what a call is told: a refusal, an answer, or the ids shown
+-- what a call is told: a refusal's number, an answer, or the ids shown
 pub data Reply : Type 0 where
-  refused : ℕ → Reply
-  answered : ℕ → Reply
+  refusal : ℕ → Reply
+  answer : ℕ → Reply
   shown : List ℕ → Reply
 
-unfoldable pub plainDeed : Gate → Plain → ℕ → Deed → Reply × Plain
-plainDeed (Refuse r) p i d = (refused (numberOf r), p)
-plainDeed (Again a) p i d = (answered a, p)
-plainDeed Go p i d = (answered (effect p d .0), accepted p i d (effect p d))
+unfoldable pub plainUpdate : Verdict → Plain → ℕ → Update → Reply × Plain
+plainUpdate (refuse r) p i u = (refusal r, p)
+plainUpdate (repeat a) p i u = (answer a, p)
+plainUpdate accept p i u = (answer (effect p u .0), accepted p i u (effect p u))
 
 abbrev pub noUnitig : Unitig
 noUnitig = record { coords = []; starts = [] }
@@ -224,24 +311,26 @@ unfoldable pub coordAt : Plain → ℕ → ℕ → ℕ
 coordAt p unitig vertex = getD (getD (p .closed) unitig noUnitig .coords) vertex 0
 
 unfoldable pub idsAt : Plain → ℕ → ℕ → List ℕ
-idsAt p unitig vertex = getD (p .S) (placeOf (coordAt p unitig vertex)) []
+idsAt p unitig vertex = getD (p .cell .S) (coordAt p unitig vertex / 256) []
 
 unfoldable pub noVertex : Plain → ℕ → ℕ → Bool
 noVertex p unitig vertex = leb (length (p .closed)) unitig || leb (length (getD (p .closed) unitig noUnitig .coords)) vertex
 
 unfoldable pub plainShow : Plain → ℕ → ℕ → ℕ → Reply
 plainShow p unitig vertex room =
-    refused 14 when noVertex p unitig vertex else
-    refused 3 when ltb room (length (idsAt p unitig vertex)) else
+    -- 14, no such closed unitig or vertex
+    refusal 14 when noVertex p unitig vertex else
+    -- 3, the output is too short
+    refusal 3 when ltb room (length (idsAt p unitig vertex)) else
     shown (idsAt p unitig vertex)
 
 unfoldable pub plainStep : Plain → Call → Reply × Plain
-plainStep p (deed i d) = plainDeed (gate p i d) p i d
+plainStep p (update i u) = plainUpdate (verdict p i u) p i u
 plainStep p (show unitig vertex room) = (plainShow p unitig vertex room, p)
 
-abbrev pub before : Reply → List Reply × Plain → List Reply × Plain
-before x r = (x ∷ r .0, r .1)
+abbrev pub withReply : Reply → List Reply × Plain → List Reply × Plain
+withReply x r = (x ∷ r .0, r .1)
 
 unfoldable pub plainRun : Plain → List Call → List Reply × Plain
 plainRun p [] = ([], p)
-plainRun p (c ∷ cs) = before (plainStep p c .0) (plainRun (plainStep p c .1) cs)
+plainRun p (c ∷ cs) = withReply (plainStep p c .0) (plainRun (plainStep p c .1) cs)

@@ -1,14 +1,15 @@
-// Close: the open unitig is filed as run bytes.
-use crate::gate;
-use crate::gate::Gate;
-use crate::gate::Turn;
+// Close: a cell's open unitig is filed as run bytes.
+use crate::numbered;
+use crate::numbered::Gate;
+use crate::numbered::Sequence;
 use crate::state::Answer;
+use crate::state::Cell;
+use crate::state::ClosedTold;
 use crate::state::Current;
 use crate::state::Last;
-use crate::state::Lengths;
+use crate::state::Shared;
 use crate::state::Store;
 use crate::state::Told;
-use crate::state::Used;
 use crate::state::Way;
 use base::Refusal;
 use base::Written;
@@ -19,10 +20,11 @@ ghost use lib.ListN.{length, take};
 ghost use Rattle.base.specs.Answers.{ofWritten};
 ghost use Rattle.runs.specs.Orders.{sharp};
 ghost use Rattle.runs.specs.Bytes.{runBytes};
-ghost use Rattle.store.specs.Plain.{close, sameWay};
-ghost use Rattle.store.specs.State.{Bufs, bufs, ofAnswer};
-ghost use Rattle.store.specs.Gate.{sameClose, gateThen};
-ghost use Rattle.store.specs.Close.{countOf, filing, closeEarly, filedRunsInto, closeLate, closeStep, CloseReady};
+ghost use Rattle.store.specs.State.{bufs, ofAnswer};
+ghost use Rattle.store.specs.Numbered.{numbered};
+ghost use Rattle.store.specs.Close.{sameWay, sameClose, countOf, filedRuns, closeCell, closeStep};
+ghost use Rattle.store.specs.Inside.Fits.{CloseFits, CloseReady};
+ghost use Rattle.store.specs.Inside.Closing.{tableTest, bytesInto, filedOrFull};
 
 fn same_way(a: Way, b: Way) -> bool
     ensures { λ r. ⌜ r ≡ sameWay a b ⌝ }
@@ -39,7 +41,7 @@ fn same_way(a: Way, b: Way) -> bool
     }
 }
 
-impl Store {
+impl Cell {
     // Whether the last call was a close in this way.
     fn is_last_close(self, way: Way) -> bool
         ensures { λ r. ⌜ r ≡ sameClose (self .last) way ⌝ }
@@ -64,70 +66,52 @@ impl Store {
         }
     }
 
-    // 5 and the table's 3.
-    fn close_open(self, n: u32, opened: &[u64]) -> Gate
-        requires { ⌜ (self .current ≡ Current.Open n) × (self .used .opened ≤ length (now opened)) ⌝ }
-        ensures { λ r. ⌜ r ≡ closeEarly self (now (opened .entry)) ⌝ }
+    // Refusal 5, open runs not sharp; 3, no space in the table.
+    fn close_open(self, shared: Shared, n: u32, opened: &[u64]) -> Gate
+        requires { ⌜ (self .current ≡ Current.Open n) × (self .opened .used ≤ length (now opened)) ⌝ }
+        ensures { λ r. ⌜ r ≡ tableTest self shared (now (opened .entry)) ⌝ }
     {
-        let end = self.used.opened;
-        let unitigs = self.used.unitigs as usize;
+        let end = self.opened.used;
+        let unitigs = shared.unitigs as usize;
         if !runs::orders::is_sharp(&opened[..end], n) {
             return Gate::Refuse(Refusal::Damaged);
         }
-        if self.lengths.table < 2 * unitigs + 2 {
+        if shared.table < 2 * unitigs + 2 {
             return Gate::Refuse(Refusal::Space);
         }
         Gate::Go
     }
 
-    // 13, 5 and the table's 3.
-    fn close_test(self, opened: &[u64]) -> Gate
-        requires { ⌜ self .used .opened ≤ length (now opened) ⌝ }
-        ensures { λ r. ⌜ r ≡ closeEarly self (now (opened .entry)) ⌝ }
+    // Refusal 13, none open; then as above.
+    fn close_test(self, shared: Shared, opened: &[u64]) -> Gate
+        requires { ⌜ self .opened .used ≤ length (now opened) ⌝ }
+        ensures { λ r. ⌜ r ≡ tableTest self shared (now (opened .entry)) ⌝ }
     {
         let current = self.current;
         match current {
             Current::Nothing => Gate::Refuse(Refusal::Unopened),
-            Current::Open(n) => self.close_open(n, opened),
+            Current::Open(n) => self.close_open(shared, n, opened),
         }
     }
 
-    // The tests of a close, but for the space of its run bytes.
-    fn close_gate(
-        self,
-        number: u32,
-        way: Way,
-        records: &[u8],
-        index: &[u64],
-        opened: &[u64],
-        held: &[u64],
-        runs: &[u8],
-        table: &[u64],
-    ) -> Gate
-        ensures { λ r. ⌜ r ≡ gateThen self (bufs (now (records .entry)) (now (index .entry)) (now (opened .entry)) (now (held .entry)) (now (runs .entry)) (now (table .entry))) number (close way) (closeEarly self (now (opened .entry))) ⌝ }
+    // The tests of a close, but for 15 and the space of its run bytes.
+    fn close_gate(self, shared: Shared, number: u32, way: Way, opened: &[u64]) -> Gate
+        requires { ⌜ self .opened .used ≤ length (now opened) ⌝ }
+        ensures { λ r. ⌜ r ≡ numbered self number (sameClose (self .last) way) (tableTest self shared (now (opened .entry))) ⌝ }
     {
-        let sizes = Lengths {
-            records: records.len(),
-            index: index.len(),
-            opened: opened.len(),
-            held: held.len(),
-            runs: runs.len(),
-            table: table.len(),
-        };
-        match self.turn(sizes, number) {
-            Turn::Stop(r) => Gate::Refuse(r),
-            Turn::Old => gate::repeated(self.is_last_close(way), self.answer),
-            Turn::New => self.close_test(opened),
+        match self.sequence(number) {
+            Sequence::Out => Gate::Refuse(Refusal::Number),
+            Sequence::Repeat => numbered::repeated(self.is_last_close(way), self.answer),
+            Sequence::New => self.close_test(shared, opened),
         }
     }
 
-    // The run bytes of the open unitig behind the used ones: 3 where they don't fit.
-    fn file_runs(self, way: Way, n: u32, opened: &[u64], runs: &mut [u8]) -> Written
-        requires { ⌜ (sharp n (take (self .used .opened) (now opened)) ≡ true) × (n ≤ 16777215) × (self .used .opened ≤ length (now opened)) × (self .used .opened ≤ 4294967295) × (self .used .runs ≤ length (now runs)) ⌝ }
-        ensures { λ r. ⌜ (ofWritten r, now (runs .exit)) ≡ filedRunsInto (runBytes (filing way n (take (self .used .opened) (now (opened .entry))))) (self .used .runs) (now (runs .entry)) ⌝ }
+    // The run bytes of the open unitig behind the `at` used ones: 3 where they don't fit.
+    fn file_runs(self, way: Way, n: u32, at: usize, opened: &[u64], runs: &mut [u8]) -> Written
+        requires { ⌜ (sharp n (take (self .opened .used) (now opened)) ≡ true) × (n ≤ 16777215) × (self .opened .used ≤ length (now opened)) × (self .opened .used ≤ 4294967295) × (at ≤ length (now runs)) ⌝ }
+        ensures { λ r. ⌜ (ofWritten r, now (runs .exit)) ≡ bytesInto (runBytes (filedRuns way n (take (self .opened .used) (now (opened .entry))))) at (now (runs .entry)) ⌝ }
     {
-        let end = self.used.opened;
-        let at = self.used.runs;
+        let end = self.opened.used;
         match way {
             Way::Line => runs::bytes::write_unitig_color_runs(&opened[..end], &mut runs[at..]),
             Way::Cycle { pivot } => runs::bytes::write_rotated_runs(
@@ -143,43 +127,78 @@ impl Store {
     // The run bytes, two numbers in the table, and the new state; or 3.
     fn file_unitig(
         self,
+        shared: Shared,
         number: u32,
         way: Way,
         opened: &[u64],
         runs: &mut [u8],
         table: &mut [u64],
-    ) -> Told
-        requires { ⌜ CloseReady self (now opened) (length (now runs)) (length (now table)) ⌝ }
-        ensures { λ r. ⌜ (ofAnswer (r .answer), r .store, now (runs .exit), now (table .exit)) ≡ closeLate self number way (now (opened .entry)) (now (runs .entry)) (now (table .entry)) ⌝ }
+    ) -> ClosedTold
+        requires { ⌜ CloseReady self shared (now opened) (length (now runs)) (length (now table)) ⌝ }
+        ensures { λ r. ⌜ (ofAnswer (r .answer), r .cell, r .shared, now (runs .exit), now (table .exit)) ≡ filedOrFull self shared number way (now (opened .entry)) (now (runs .entry)) (now (table .entry)) ⌝ }
     {
-        let used = self.used;
         let n = self.vertices();
-        let Written::Done(len) = self.file_runs(way, n, opened, runs) else {
-            return Told {
-                store: self,
+        let at = shared.runs.used;
+        let Written::Done(len) = self.file_runs(way, n, at, opened, runs) else {
+            return ClosedTold {
+                cell: self,
+                shared,
                 answer: Answer::Refused(Refusal::Space),
             };
         };
-        let unitigs = used.unitigs as usize;
-        table[2 * unitigs] = used.runs as u64;
+        let unitigs = shared.unitigs as usize;
+        table[2 * unitigs] = at as u64;
         table[2 * unitigs + 1] = n as u64;
-        self.after(
+        let place = shared.unitigs as u64;
+        let cell = self.after(
+            self.records.used,
+            self.sets,
+            0,
+            self.held.used,
+            Current::Nothing,
             number,
             Last::Close { way },
-            used.unitigs as u64,
-            Used {
-                records: used.records,
-                sets: used.sets,
-                opened: 0,
-                held: used.held,
-                runs: used.runs + len,
-                unitigs: used.unitigs + 1,
-            },
-            Current::Nothing,
-        )
+            place,
+        );
+        let closed = shared.with_unitig(at + len, shared.unitigs + 1);
+        ClosedTold {
+            cell,
+            shared: closed,
+            answer: Answer::Done(place),
+        }
     }
 
-    // The open unitig joins the closed ones: 15, 10, 11, 13, 5, 3; answers its place.
+    // The open unitig joins the closed ones; answers its place. Refusals 10, 11, 13, 5, 3, in this order.
+    fn close(
+        self,
+        shared: Shared,
+        number: u32,
+        way: Way,
+        opened: &[u64],
+        runs: &mut [u8],
+        table: &mut [u64],
+    ) -> ClosedTold
+        requires { ⌜ CloseFits self shared (length (now opened)) (length (now runs)) (length (now table)) ⌝ }
+        ensures { λ r. ⌜ (ofAnswer (r .answer), r .cell, r .shared, now (runs .exit), now (table .exit)) ≡ closeCell self shared number way (now (opened .entry)) (now (runs .entry)) (now (table .entry)) ⌝ }
+    {
+        match self.close_gate(shared, number, way, opened) {
+            Gate::Refuse(r) => ClosedTold {
+                cell: self,
+                shared,
+                answer: Answer::Refused(r),
+            },
+            Gate::Again(a) => ClosedTold {
+                cell: self,
+                shared,
+                answer: Answer::Done(a),
+            },
+            Gate::Go => self.file_unitig(shared, number, way, opened, runs, table),
+        }
+    }
+}
+
+impl Store {
+    // Refusal 15, altered state or buffers; then the cell's close.
     pub fn close(
         self,
         number: u32,
@@ -194,16 +213,21 @@ impl Store {
         ensures { λ r. ⌜ (ofAnswer (r .answer), r .store, bufs (now (records .entry)) (now (index .entry)) (now (opened .entry)) (now (held .entry)) (now (runs .exit)) (now (table .exit)))
             ≡ closeStep self (bufs (now (records .entry)) (now (index .entry)) (now (opened .entry)) (now (held .entry)) (now (runs .entry)) (now (table .entry))) number way ⌝ }
     {
-        match self.close_gate(number, way, records, index, opened, held, runs, table) {
-            Gate::Refuse(r) => Told {
+        if self.altered(
+            records.len(),
+            index.len(),
+            opened.len(),
+            held.len(),
+            runs.len(),
+            table.len(),
+        ) {
+            return Told {
                 store: self,
-                answer: Answer::Refused(r),
-            },
-            Gate::Again(a) => Told {
-                store: self,
-                answer: Answer::Done(a),
-            },
-            Gate::Go => self.file_unitig(number, way, opened, runs, table),
+                answer: Answer::Refused(Refusal::Altered),
+            };
         }
+        let cell = self.cell;
+        let shared = self.shared;
+        self.with_closed(cell.close(shared, number, way, opened, runs, table))
     }
 }

@@ -1,31 +1,27 @@
-// Join: a piece behind the open unitig, or the first of a new one.
-use crate::gate;
-use crate::gate::Gate;
-use crate::gate::Turn;
+// Join: a piece behind a cell's open unitig, or the first of a new one.
+use crate::counts;
+use crate::numbered;
+use crate::numbered::Gate;
+use crate::numbered::Sequence;
 use crate::state::Answer;
+use crate::state::Cell;
+use crate::state::CellTold;
 use crate::state::Current;
 use crate::state::Last;
-use crate::state::Lengths;
 use crate::state::Store;
 use crate::state::Told;
-use crate::state::Used;
 use base::Refusal;
-use base::Written;
-use runs::append::Appended;
 ghost use mathlib.Core.Path.{_≡_};
-ghost use mathlib.Core.Bool.{true, false, _&&_};
-ghost use Prim.Native.Nat.{_+_, _<_, _≤_};
+ghost use mathlib.Core.Bool.{_&&_};
+ghost use Prim.Native.Nat.{_<_, _≤_};
 ghost use lib.ListN.{length, take};
 ghost use lib.Dec.{eqb};
-ghost use Rattle.base.specs.Parts.{over};
 ghost use Rattle.codec.specs.Records.{same};
-ghost use Rattle.runs.specs.Orders.{mostVertices, sharp};
 ghost use Rattle.runs.specs.Reverse.{oriented};
-ghost use Rattle.store.specs.Tests.{alike, named};
-ghost use Rattle.store.specs.Plain.{join};
-ghost use Rattle.store.specs.State.{Bufs, bufs, put, ofAnswer};
-ghost use Rattle.store.specs.Gate.{badCurrent, sameJoin, gateThen};
-ghost use Rattle.store.specs.Join.{openCount, openAt, openNew, openTest, openSpace, joinTest, joinFiled, joinStep, OpenReady, JoinReady, openAfter, writtenOf, appendedOf};
+ghost use Rattle.store.specs.State.{bufs, ofAnswer};
+ghost use Rattle.store.specs.Numbered.{numbered};
+ghost use Rattle.store.specs.Join.{alike, allNamed, sameJoin, openCount, openAt, openNew, openTest, openSpace, joinTest, joinFiled, joinCell, joinStep};
+ghost use Rattle.store.specs.Inside.Fits.{JoinFits, JoinReady, OpenReady, openAfter};
 
 fn alike(a: bool, b: bool) -> bool
     ensures { λ r. ⌜ r ≡ alike a b ⌝ }
@@ -54,7 +50,7 @@ fn same_runs(a: &[u64], b: &[u64]) -> bool
 
 // Whether every coordinate is the worker's, with a place below `sets`.
 fn all_named(worker: u32, sets: u32, piece: &[u64]) -> bool
-    ensures { λ r. ⌜ r ≡ named worker sets (now (piece .entry)) ⌝ }
+    ensures { λ r. ⌜ r ≡ allNamed worker sets (now (piece .entry)) ⌝ }
 {
     let mut i: usize = 0;
     while i < piece.len() {
@@ -70,25 +66,7 @@ fn all_named(worker: u32, sets: u32, piece: &[u64]) -> bool
     true
 }
 
-fn written_count(w: Written) -> usize
-    ensures { λ r. ⌜ r ≡ writtenOf w ⌝ }
-{
-    match w {
-        Written::Done(k) => k,
-        Written::Refused(_) => 0,
-    }
-}
-
-fn appended_count(a: Appended) -> usize
-    ensures { λ r. ⌜ r ≡ appendedOf a ⌝ }
-{
-    match a {
-        Appended::Done { runs, vertices: _ } => runs,
-        Appended::Refused(_) => 0,
-    }
-}
-
-impl Store {
+impl Cell {
     // Whether a last join of `m` vertices, turned round or not, was this one.
     fn same_piece(
         self,
@@ -99,8 +77,8 @@ impl Store {
         piece: &[u64],
         held: &[u64],
     ) -> bool
-        requires { ⌜ self .used .held ≤ length (now held) ⌝ }
-        ensures { λ r. ⌜ r ≡ (eqb m n && alike back reversed && same (take (self .used .held) (now (held .entry))) (now (piece .entry))) ⌝ }
+        requires { ⌜ self .held .used ≤ length (now held) ⌝ }
+        ensures { λ r. ⌜ r ≡ (eqb m n && alike back reversed && same (take (self .held .used) (now (held .entry))) (now (piece .entry))) ⌝ }
     {
         if m != n {
             return false;
@@ -108,14 +86,14 @@ impl Store {
         if !alike(back, reversed) {
             return false;
         }
-        let end = self.used.held;
+        let end = self.held.used;
         same_runs(&held[..end], piece)
     }
 
     // Whether the last call was a join of this piece.
     fn is_last_join(self, n: u32, reversed: bool, piece: &[u64], held: &[u64]) -> bool
-        requires { ⌜ self .used .held ≤ length (now held) ⌝ }
-        ensures { λ r. ⌜ r ≡ sameJoin (self .used .held) (now (held .entry)) (self .last) n reversed (now (piece .entry)) ⌝ }
+        requires { ⌜ self .held .used ≤ length (now held) ⌝ }
+        ensures { λ r. ⌜ r ≡ sameJoin (self .held .used) (now (held .entry)) (self .last) n reversed (now (piece .entry)) ⌝ }
     {
         let last = self.last;
         match last {
@@ -143,37 +121,36 @@ impl Store {
 
     // Where new open runs go.
     fn open_at(self) -> usize
-        ensures { λ r. ⌜ r ≡ openAt (self .current) (self .used .opened) ⌝ }
+        ensures { λ r. ⌜ r ≡ openAt (self .current) (self .opened .used) ⌝ }
     {
         let current = self.current;
         match current {
             Current::Nothing => 0,
-            Current::Open(_) => self.used.opened,
+            Current::Open(_) => self.opened.used,
         }
     }
 
-    // 3.
+    // Refusal 3, no space for the open runs or the held piece.
     fn open_space(self, new: usize, held: usize) -> Gate
-        requires { ⌜ self .used .opened ≤ self .lengths .opened ⌝ }
+        requires { ⌜ self .opened .used ≤ self .opened .length ⌝ }
         ensures { λ r. ⌜ r ≡ openSpace self new held ⌝ }
     {
         let at = self.open_at();
-        let lengths = self.lengths;
-        if lengths.opened - at < new {
+        if self.opened.length - at < new {
             return Gate::Refuse(Refusal::Space);
         }
-        if lengths.held < held {
+        if self.held.length < held {
             return Gate::Refuse(Refusal::Space);
         }
         Gate::Go
     }
 
-    // 5, 8, 3 with an open unitig of m vertices.
+    // With an open unitig of m vertices: refusal 5, its runs not sharp; 8, the piece begins elsewhere; 3, no space.
     fn meet_open(self, m: u32, n: u32, reversed: bool, piece: &[u64], opened: &[u64]) -> Gate
-        requires { ⌜ (self .current ≡ Current.Open m) × (self .used .opened ≤ length (now opened)) × (self .used .opened ≤ self .lengths .opened) × (0 < length (now piece)) ⌝ }
-        ensures { λ r. ⌜ r ≡ openTest (self .current) (take (self .used .opened) (now (opened .entry))) (oriented reversed n (now (piece .entry))) (openSpace self (length (openNew (self .current) (take (self .used .opened) (now (opened .entry))) (oriented reversed n (now (piece .entry))))) (length (now (piece .entry)))) ⌝ }
+        requires { ⌜ (self .current ≡ Current.Open m) × (self .opened .used ≤ length (now opened)) × (self .opened .used ≤ self .opened .length) × (0 < length (now piece)) ⌝ }
+        ensures { λ r. ⌜ r ≡ openTest (self .current) (take (self .opened .used) (now (opened .entry))) (oriented reversed n (now (piece .entry))) (openSpace self (length (openNew (self .current) (take (self .opened .used) (now (opened .entry))) (oriented reversed n (now (piece .entry))))) (length (now (piece .entry)))) ⌝ }
     {
-        let end = self.used.opened;
+        let end = self.opened.used;
         if !runs::orders::is_sharp(&opened[..end], m) {
             return Gate::Refuse(Refusal::Damaged);
         }
@@ -185,10 +162,10 @@ impl Store {
         self.open_space(piece.len() - 1, piece.len())
     }
 
-    // 5, 8, 3.
+    // Refusals 5, 8 where a unitig is open; then 3, no space.
     fn meet(self, n: u32, reversed: bool, piece: &[u64], opened: &[u64]) -> Gate
-        requires { ⌜ (self .used .opened ≤ length (now opened)) × (self .used .opened ≤ self .lengths .opened) × (0 < length (now piece)) ⌝ }
-        ensures { λ r. ⌜ r ≡ openTest (self .current) (take (self .used .opened) (now (opened .entry))) (oriented reversed n (now (piece .entry))) (openSpace self (length (openNew (self .current) (take (self .used .opened) (now (opened .entry))) (oriented reversed n (now (piece .entry))))) (length (now (piece .entry)))) ⌝ }
+        requires { ⌜ (self .opened .used ≤ length (now opened)) × (self .opened .used ≤ self .opened .length) × (0 < length (now piece)) ⌝ }
+        ensures { λ r. ⌜ r ≡ openTest (self .current) (take (self .opened .used) (now (opened .entry))) (oriented reversed n (now (piece .entry))) (openSpace self (length (openNew (self .current) (take (self .opened .used) (now (opened .entry))) (oriented reversed n (now (piece .entry))))) (length (now (piece .entry)))) ⌝ }
     {
         let current = self.current;
         match current {
@@ -197,9 +174,9 @@ impl Store {
         }
     }
 
-    // 7, 6, 9, 5, 8, 3.
+    // Refusal 7, vertex count; 6, not sharp; 9, a coordinate that names no set; then 5, 8, 3.
     fn join_test(self, n: u32, reversed: bool, piece: &[u64], opened: &[u64]) -> Gate
-        requires { ⌜ (self .used .opened ≤ length (now opened)) × (self .used .opened ≤ self .lengths .opened) ⌝ }
+        requires { ⌜ (self .opened .used ≤ length (now opened)) × (self .opened .used ≤ self .opened .length) ⌝ }
         ensures { λ r. ⌜ r ≡ joinTest self (now (opened .entry)) n reversed (now (piece .entry)) ⌝ }
     {
         if n == 0 {
@@ -211,40 +188,32 @@ impl Store {
         if !runs::orders::is_sharp(piece, n) {
             return Gate::Refuse(Refusal::Runs);
         }
-        if !all_named(self.worker, self.used.sets, piece) {
+        if !all_named(self.worker, self.sets, piece) {
             return Gate::Refuse(Refusal::Coordinate);
         }
         self.meet(n, reversed, piece, opened)
     }
 
-    // All tests of a join.
+    // All tests of a join but 15.
     fn join_gate(
         self,
         number: u32,
         n: u32,
         reversed: bool,
         piece: &[u64],
-        records: &[u8],
-        index: &[u64],
         opened: &[u64],
         held: &[u64],
-        runs: &[u8],
-        table: &[u64],
     ) -> Gate
-        ensures { λ r. ⌜ r ≡ gateThen self (bufs (now (records .entry)) (now (index .entry)) (now (opened .entry)) (now (held .entry)) (now (runs .entry)) (now (table .entry))) number (join n reversed (now (piece .entry))) (joinTest self (now (opened .entry)) n reversed (now (piece .entry))) ⌝ }
+        requires { ⌜ JoinFits self (length (now opened)) (length (now held)) ⌝ }
+        ensures { λ r. ⌜ r ≡ numbered self number (sameJoin (self .held .used) (now (held .entry)) (self .last) n reversed (now (piece .entry))) (joinTest self (now (opened .entry)) n reversed (now (piece .entry))) ⌝ }
     {
-        let sizes = Lengths {
-            records: records.len(),
-            index: index.len(),
-            opened: opened.len(),
-            held: held.len(),
-            runs: runs.len(),
-            table: table.len(),
-        };
-        match self.turn(sizes, number) {
-            Turn::Stop(r) => Gate::Refuse(r),
-            Turn::Old => gate::repeated(self.is_last_join(n, reversed, piece, held), self.answer),
-            Turn::New => self.join_test(n, reversed, piece, opened),
+        match self.sequence(number) {
+            Sequence::Out => Gate::Refuse(Refusal::Number),
+            Sequence::Repeat => numbered::repeated(
+                self.is_last_join(n, reversed, piece, held),
+                self.answer,
+            ),
+            Sequence::New => self.join_test(n, reversed, piece, opened),
         }
     }
 
@@ -255,15 +224,15 @@ impl Store {
     {
         let current = self.current;
         match current {
-            Current::Nothing => written_count(runs::reverse::orient_color_runs(
+            Current::Nothing => counts::written(runs::reverse::orient_color_runs(
                 piece,
                 n,
                 reversed,
                 opened,
             )),
-            Current::Open(m) => appended_count(runs::append::append_color_runs(
+            Current::Open(m) => counts::appended(runs::append::append_color_runs(
                 opened,
-                self.used.opened,
+                self.opened.used,
                 m,
                 piece,
                 n,
@@ -281,31 +250,58 @@ impl Store {
         piece: &[u64],
         opened: &mut [u64],
         held: &mut [u64],
-    ) -> Told
+    ) -> CellTold
         requires { ⌜ JoinReady self n reversed (now piece) (now opened) (length (now held)) ⌝ }
-        ensures { λ r. ⌜ (ofAnswer (r .answer), r .store, now (opened .exit), now (held .exit)) ≡ joinFiled self number n reversed (now (piece .entry)) (now (opened .entry)) (now (held .entry)) ⌝ }
+        ensures { λ r. ⌜ (ofAnswer (r .answer), r .cell, now (opened .exit), now (held .exit)) ≡ joinFiled self number n reversed (now (piece .entry)) (now (opened .entry)) (now (held .entry)) ⌝ }
     {
-        let used = self.used;
         let total = self.put_open(n, reversed, piece, opened);
         runs::reverse::orient_color_runs(piece, n, false, held);
         let count = self.new_count(n);
-        self.after(
+        let cell = self.after(
+            self.records.used,
+            self.sets,
+            total,
+            piece.len(),
+            Current::Open(count as u32),
             number,
             Last::Join { n, reversed },
             count,
-            Used {
-                records: used.records,
-                sets: used.sets,
-                opened: total,
-                held: piece.len(),
-                runs: used.runs,
-                unitigs: used.unitigs,
-            },
-            Current::Open(count as u32),
-        )
+        );
+        CellTold {
+            cell,
+            answer: Answer::Done(count),
+        }
     }
 
-    // A piece joins the open unitig: 15, 10, 11, 7, 6, 9, 5, 8, 3; answers the new vertex count.
+    // A piece joins the open unitig; answers the new vertex count. Refusals 10, 11, 7, 6, 9, 5, 8, 3, in this order.
+    fn join(
+        self,
+        number: u32,
+        n: u32,
+        reversed: bool,
+        piece: &[u64],
+        opened: &mut [u64],
+        held: &mut [u64],
+    ) -> CellTold
+        requires { ⌜ JoinFits self (length (now opened)) (length (now held)) ⌝ }
+        ensures { λ r. ⌜ (ofAnswer (r .answer), r .cell, now (opened .exit), now (held .exit)) ≡ joinCell self number n reversed (now (piece .entry)) (now (opened .entry)) (now (held .entry)) ⌝ }
+    {
+        match self.join_gate(number, n, reversed, piece, opened, held) {
+            Gate::Refuse(r) => CellTold {
+                cell: self,
+                answer: Answer::Refused(r),
+            },
+            Gate::Again(a) => CellTold {
+                cell: self,
+                answer: Answer::Done(a),
+            },
+            Gate::Go => self.join_piece(number, n, reversed, piece, opened, held),
+        }
+    }
+}
+
+impl Store {
+    // Refusal 15, altered state or buffers; then the cell's join.
     pub fn join(
         self,
         number: u32,
@@ -322,27 +318,20 @@ impl Store {
         ensures { λ r. ⌜ (ofAnswer (r .answer), r .store, bufs (now (records .entry)) (now (index .entry)) (now (opened .exit)) (now (held .exit)) (now (runs .entry)) (now (table .entry)))
             ≡ joinStep self (bufs (now (records .entry)) (now (index .entry)) (now (opened .entry)) (now (held .entry)) (now (runs .entry)) (now (table .entry))) number n reversed (now (piece .entry)) ⌝ }
     {
-        match self.join_gate(
-            number,
-            n,
-            reversed,
-            piece,
-            records,
-            index,
-            opened,
-            held,
-            runs,
-            table,
+        if self.altered(
+            records.len(),
+            index.len(),
+            opened.len(),
+            held.len(),
+            runs.len(),
+            table.len(),
         ) {
-            Gate::Refuse(r) => Told {
+            return Told {
                 store: self,
-                answer: Answer::Refused(r),
-            },
-            Gate::Again(a) => Told {
-                store: self,
-                answer: Answer::Done(a),
-            },
-            Gate::Go => self.join_piece(number, n, reversed, piece, opened, held),
+                answer: Answer::Refused(Refusal::Altered),
+            };
         }
+        let cell = self.cell;
+        self.with_cell(cell.join(number, n, reversed, piece, opened, held))
     }
 }

@@ -1,5 +1,5 @@
 use borrow.Author.Needs.{needs}
-use Rattle.replay.proofs.Laws.Cases.{heard-add}
+use Rattle.replay.proofs.Laws.Cases.{told-add}
 use Rattle.replay.proofs.one_add.Statement.{statement}
 use Rattle.replay.proofs.one_add.Tie as tie
 
@@ -31,7 +31,7 @@ same-length-2 : tie.Need-same-length-2
 same-length-2 c = search needs
 
 returns : tie.Need-returns
-returns c = search (heard-add)
+returns c = search (told-add)
 
 pub one-add-spec : {M : Type 1} → statement M
 one-add-spec =

@@ -1,5 +1,5 @@
 use borrow.Author.Needs.{needs}
-use Rattle.replay.proofs.Laws.Cases.{heard-close}
+use Rattle.replay.proofs.Laws.Cases.{told-close}
 use Rattle.replay.proofs.one_close.Statement.{statement}
 use Rattle.replay.proofs.one_close.Tie as tie
 
@@ -16,7 +16,7 @@ same-length-2 : tie.Need-same-length-2
 same-length-2 c = search needs
 
 returns : tie.Need-returns
-returns c = search (heard-close)
+returns c = search (told-close)
 
 pub one-close-spec : {M : Type 1} → statement M
 one-close-spec =

@@ -1,5 +1,5 @@
 use borrow.Author.Needs.{needs}
-use Rattle.replay.proofs.Laws.Cases.{heard-join}
+use Rattle.replay.proofs.Laws.Cases.{told-join}
 use Rattle.replay.proofs.one_join.Statement.{statement}
 use Rattle.replay.proofs.one_join.Tie as tie
 
@@ -31,7 +31,7 @@ same-length-2 : tie.Need-same-length-2
 same-length-2 c = search needs
 
 returns : tie.Need-returns
-returns c = search (heard-join)
+returns c = search (told-join)
 
 pub one-join-spec : {M : Type 1} → statement M
 one-join-spec =

@@ -1,5 +1,5 @@
 use borrow.Author.Needs.{needs}
-use Rattle.replay.proofs.Laws.Cases.{heard-show}
+use Rattle.replay.proofs.Laws.Cases.{told-show}
 use Rattle.replay.proofs.one_show.Statement.{statement}
 use Rattle.replay.proofs.one_show.Tie as tie
 
@@ -28,7 +28,7 @@ same-length : tie.Need-same-length
 same-length c = search needs
 
 returns : tie.Need-returns
-returns c = search (heard-show)
+returns c = search (told-show)
 
 pub one-show-spec : {M : Type 1} → statement M
 one-show-spec =

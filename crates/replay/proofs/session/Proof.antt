@@ -1,3 +1,4 @@
+-- `replay::session` meets its contract.
 use denote.Ref.{now}
 use mathlib.Core.Path.{refl, _∙_}
 use borrow.Author.Needs.{needs}
@@ -9,11 +10,11 @@ use Rattle.replay.proofs.session.Tie as tie
 start-requires : tie.Need-start-requires
 start-requires c κs = search needs
 
-enum-known-r : tie.Need-enum-known-r
-enum-known-r c = search needs
+enum-known-answer : tie.Need-enum-known-answer
+enum-known-answer c = search needs
 
-enum-known-s : tie.Need-enum-known-s
-enum-known-s c = search needs
+enum-told : tie.Need-enum-told
+enum-told c = search needs
 
 replay-requires : tie.Need-replay-requires
 replay-requires c κs = search needs
@@ -22,7 +23,7 @@ same-length : tie.Need-same-length
 same-length c = refl
 
 same-length-2 : tie.Need-same-length-2
-same-length-2 c = c .before .before .before .before .before .start .kept .1 .1 .1 .0
+same-length-2 c = c .before .before .before .before .before .before .start .kept .1 .1 .1 .0
 
 same-length-3 : tie.Need-same-length-3
 same-length-3 c = refl
@@ -38,8 +39,8 @@ same-length-6 c = refl
 
 returns : tie.Need-returns
 returns c =
-    let a = c .before .before .before .before .before .before .before .before .before .before .before .before .before .before .before .before .before .before .before .before .before .before .before .before .args in
-    let k = start-kept _ _ _ _ (bufs (now (a .records)) (now (a .index)) (now (a .opened)) (now (a .held)) (now (a .runs)) (now (a .table))) _ (c .before .before .before .before .before .start .ensures) (c .before .r .given .1) in
+    let a = c .before .before .before .before .before .before .before .before .before .before .before .before .before .before .before .before .before .before .before .before .before .before .before .before .before .args in
+    let k = start-kept _ _ _ _ _ (bufs (now (a .records)) (now (a .index)) (now (a .opened)) (now (a .held)) (now (a .runs)) (now (a .table))) _ (c .before .before .before .before .before .before .start .ensures) (c .before .answer .given .1) in
     (k .0, k .1, refl, refl, refl)
 
 same-length-7 : tie.Need-same-length-7
@@ -72,15 +73,15 @@ same-length-15 c = c .before .before .before .before .before .before .before .be
 returns-2 : tie.Need-returns-2
 returns-2 c =
     let a = c .before .before .before .before .before .before .before .before .before .before .before .before .before .before .before .before .before .before .before .before .before .before .before .before .before .before .before .before .before .before .before .before .before .before .before .before .before .before .before .before .before .before .before .before .before .before .before .before .before .before .before .before .args in
-    session-ran _ _ _ _ _ _ _ _ (bufs (now (a .records)) (now (a .index)) (now (a .opened)) (now (a .held)) (now (a .runs)) (now (a .table))) _ _ _ _ _ _ _ _ (c .before .before .before .before .before .before .before .before .before .before .before .before .before .before .before .before .before .before .before .before .before .before .before .before .before .before .before .before .before .before .before .before .before .start .ensures) (c .before .before .before .before .before .before .before .before .before .before .before .before .before .before .before .before .before .before .before .before .before .before .before .before .before .before .before .before .before .s .given .1) (c .before .before .before .before .before .before .before .before .before .before .before .before .before .before .before .before .before .before .replay .ensures)
+    session-ran _ _ _ _ _ _ _ _ (bufs (now (a .records)) (now (a .index)) (now (a .opened)) (now (a .held)) (now (a .runs)) (now (a .table))) _ _ _ _ _ _ _ _ (c .before .before .before .before .before .before .before .before .before .before .before .before .before .before .before .before .before .before .before .before .before .before .before .before .before .before .before .before .before .before .before .before .before .start .ensures) (c .before .before .before .before .before .before .before .before .before .before .before .before .before .before .before .before .before .before .before .before .before .before .before .before .before .before .before .before .enum-told .given .1) (c .before .before .before .before .before .before .before .before .before .before .before .before .before .before .before .before .before .before .replay .ensures)
 
 pub session-spec : {M : Type 1} → statement M
 session-spec =
     tie.close
     (tie.spec
     start-requires
-    enum-known-r
-    enum-known-s
+    enum-known-answer
+    enum-told
     replay-requires
     same-length
     same-length-2

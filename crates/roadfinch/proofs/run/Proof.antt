@@ -6,10 +6,10 @@ use Rattle.roadfinch.proofs.run.Statement.{statement}
 use Rattle.roadfinch.proofs.run.Tie as tie
 
 abbrev Inv-loop : tie.InvT-loop
-Inv-loop input₀ line₀ ids₀ piece₀ space₀ records₀ index₀ opened₀ held₀ runs₀ table₀ out₀ desk₀ turns₀ input line ids piece space records index opened held runs table out desk turns = turns ≡ turns
+Inv-loop input₀ line₀ ids₀ piece₀ space₀ records₀ index₀ opened₀ held₀ runs₀ table₀ out₀ session₀ turns₀ input line ids piece space records index opened held runs table out session turns = turns ≡ turns
 
 abbrev μ-loop : tie.MeasureT-loop
-μ-loop input₀ line₀ ids₀ piece₀ space₀ records₀ index₀ opened₀ held₀ runs₀ table₀ out₀ desk₀ turns₀ input line ids piece space records index opened held runs table out desk turns = turns
+μ-loop input₀ line₀ ids₀ piece₀ space₀ records₀ index₀ opened₀ held₀ runs₀ table₀ out₀ session₀ turns₀ input line ids piece space records index opened held runs table out session turns = turns
 
 beginning-requires : tie.Need-beginning-requires Inv-loop μ-loop
 beginning-requires c κs = search needs

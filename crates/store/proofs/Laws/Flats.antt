@@ -6,7 +6,7 @@ use native.Mathlib.Omega.{arith}
 use native.Mathlib.Nat.{add-zero}
 use lib.ListN.{length, getD, take, drop, length-append, take-append-drop}
 use lib.Seq.{drop-append-add}
-use Rattle.codec.specs.Flat.{flat, starts}
+use Rattle.codec.specs.Flat.{flat, bounds}
 
 module _ {A : Type 0} (enc : A → List ℕ) where
   flat-append : (xs ys : List A) → flat enc (xs ++ ys) ≡ flat enc xs ++ flat enc ys
@@ -24,16 +24,16 @@ module _ {A : Type 0} (enc : A → List ℕ) where
       let e : flat enc (take k xs) ++ flat enc (drop k xs) ≡ flat enc xs = sym (flat-append (take k xs) (drop k xs)) ∙ ap (flat enc) (take-append-drop k xs) in
       omega (arith, simp length-append at (ap length e))
 
-  pub starts-more : (o : ℕ) (xs : List A) (x : A) → starts enc o (xs ++ (x ∷ [])) ≡ starts enc o xs ++ ((o + length (flat enc xs) + length (enc x)) ∷ [])
-  unfolding flat starts
+  pub starts-more : (o : ℕ) (xs : List A) (x : A) → bounds enc o (xs ++ (x ∷ [])) ≡ bounds enc o xs ++ ((o + length (flat enc xs) + length (enc x)) ∷ [])
+  unfolding flat bounds
   starts-more o [] x = rw add-zero
   starts-more o (y ∷ xs) x =
       let e : o + length (enc y) + length (flat enc xs) + length (enc x) ≡ o + length (enc y ++ flat enc xs) + length (enc x) = omega (arith, length-append (enc y) (flat enc xs)) in
-      ap (λ (l : List ℕ). o ∷ l) (starts-more (o + length (enc y)) xs x ∙ ap (λ (n : ℕ). starts enc (o + length (enc y)) xs ++ (n ∷ [])) e)
+      ap (λ (l : List ℕ). o ∷ l) (starts-more (o + length (enc y)) xs x ∙ ap (λ (n : ℕ). bounds enc (o + length (enc y)) xs ++ (n ∷ [])) e)
 
   -- item k begins where the k items before it end
-  pub start-at : (o : ℕ) (xs : List A) (k : ℕ) → k ≤ length xs → getD (starts enc o xs) k 0 ≡ o + length (flat enc (take k xs))
-  unfolding flat starts
+  pub start-at : (o : ℕ) (xs : List A) (k : ℕ) → k ≤ length xs → getD (bounds enc o xs) k 0 ≡ o + length (flat enc (take k xs))
+  unfolding flat bounds
   start-at o [] zero h = sym (add-zero o)
   start-at o [] (suc k) h = omega arith
   start-at o (x ∷ xs) zero h = sym (add-zero o)

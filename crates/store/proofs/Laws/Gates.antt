@@ -1,101 +1,105 @@
--- Tests and gates.
+-- What the tests over the buffers find, in the plain store's words: 10, 11 and repeats, and choices by the same tests.
 use Prim.Native.Nat.{ℕ, _+_}
 use mathlib.Core.Path.{_≡_, refl}
 use mathlib.Core.Bool.{Bool, true, false, not, _||_}
+use mathlib.Core.List.{[], _∷_}
+use mathlib.Core.Option.{Option, none, some}
 use native.Mathlib.Omega.{arith}
 use lib.Dec.{eqb}
-use borrow.Author.Tests.{eq-eqb, eqb-true, not-false}
+use borrow.Author.Tests.{eqb-true, not-false}
+use Rattle.base.specs.Answers.{Answer, done, numberOf, refused}
 use Rattle.base.specs.Tests.{_when_else_}
 use Rattle.base.specs.declared.Refusal.{Refusal}
-use Rattle.base.specs.declared.Refusal.the-variants.{Number}
 use Rattle.base.proofs.Bools.{or-none}
-use Rattle.store.specs.Tests.{byTurn, numberTurn, repeated}
-use Rattle.store.specs.declared.gate.Gate.{Gate}
-use Rattle.store.specs.declared.gate.Gate.the-variants.{Again, Go, Refuse}
-use Rattle.store.specs.declared.gate.Turn.{Turn}
-use Rattle.store.specs.declared.gate.Turn.the-variants.{New, Old, Stop}
+use Rattle.store.specs.Numbered.{byGate, bySequence, numbered, repeated, sequenceOf}
+use Rattle.store.specs.Plain.{Plain, Update, Verdict, accept, again, equalUpdates, refuse, repeat, tests, verdict}
+use Rattle.store.specs.declared.numbered.Gate.{Gate}
+use Rattle.store.specs.declared.numbered.Gate.the-variants.{Again, Go, Refuse}
+use Rattle.store.specs.declared.numbered.Sequence.the-variants.{New, Out, Repeat}
+use Rattle.store.specs.declared.state.Cell.{Cell}
 
-pub none-five : (a b c d e : Bool) → (a || b || c || d || e) ≡ false → (a ≡ false) × (b ≡ false) × (c ≡ false) × (d ≡ false) × (e ≡ false)
-none-five a b c d e h =
-    let r = or-none (a || b || c || d) e h in
-    let s = or-none (a || b || c) d (r .0) in
-    let t = or-none (a || b) c (s .0) in
-    let u = or-none a b (t .0) in
-    (u .0, u .1, t .1, s .1, r .1)
+unfoldable pub asVerdict : Gate → Verdict
+asVerdict (Refuse r) = refuse (numberOf r)
+asVerdict (Again a) = repeat a
+asVerdict Go = accept
 
-pub none-six : (a b c d e f : Bool) → (a || b || c || d || e || f) ≡ false → (a ≡ false) × (b ≡ false) × (c ≡ false) × (d ≡ false) × (e ≡ false) × (f ≡ false)
-none-six a b c d e f h =
-    let q = or-none (a || b || c || d || e) f h in
-    let u = none-five a b c d e (q .0) in
-    (u .0, u .1, u .2, u .3, u .4, q .1)
+-- a step by its gate is one by the verdict
+unfoldable pub byVerdict : {R : Type 0} → Verdict → (told : Answer → R) → (go : R) → R
+byVerdict (refuse r) told go = told (refused r)
+byVerdict (repeat a) told go = told (done (a ∷ []))
+byVerdict accept told go = go
 
-pub none-seven : (a b c d e f g : Bool) → (a || b || c || d || e || f || g) ≡ false → (a ≡ false) × (b ≡ false) × (c ≡ false) × (d ≡ false) × (e ≡ false) × (f ≡ false) × (g ≡ false)
-none-seven a b c d e f g h =
-    let q = or-none (a || b || c || d || e || f) g h in
-    let u = none-six a b c d e f (q .0) in
-    (u .0, u .1, u .2, u .3, u .4, u .5, q .1)
+pub by-verdict : {R : Type 0} (g : Gate) (told : Answer → R) (go : R) → byGate g told go ≡ byVerdict (asVerdict g) told go
+unfolding byGate byVerdict asVerdict
+by-verdict (Refuse r) told go = refl
+by-verdict (Again a) told go = refl
+by-verdict Go told go = refl
 
-pub or-right-no : (a b : Bool) → b ≡ false → (a || b) ≡ a
-or-right-no true b e = refl
-or-right-no false b e = e
+-- ---- one test
 
-pub same-not : (m n : ℕ) → m ≡ n → not (eqb m n) ≡ false
-same-not m n e = rw (eq-eqb m n e)
+-- with tests that agree, the two agree if they do where the test fails
+pub refuse-both : (r : Refusal) {t u : Bool} (g : Gate) (v : Verdict) → t ≡ u → (u ≡ false → asVerdict g ≡ v) → asVerdict (_when_else_ (Refuse r) t g) ≡ _when_else_ (refuse (numberOf r)) u v
+unfolding asVerdict _when_else_
+refuse-both r {t} {u} g v q e = rw q (go u e)
+  where
+    go : (u : Bool) → (u ≡ false → asVerdict g ≡ v) → asVerdict (_when_else_ (Refuse r) u g) ≡ _when_else_ (refuse (numberOf r)) u v
+    go true e = refl
+    go false e = e refl
 
--- a gate that lets go: no test before held
-pub refuse-go : (r : Refusal) (t : Bool) (g : Gate) → _when_else_ (Refuse r) t g ≡ Go → (t ≡ false) × (g ≡ Go)
+-- accepted: no test before held
+pub refuse-accept : (r : ℕ) (t : Bool) (v : Verdict) → _when_else_ (refuse r) t v ≡ accept → (t ≡ false) × (v ≡ accept)
 unfolding _when_else_
-refuse-go r true g e = let z : _≡_ {A = ℕ} 0 1 = cc in absurd (omega arith)
-refuse-go r false g e = (refl, e)
+refuse-accept r true v e = let z : _≡_ {A = ℕ} 0 1 = cc in absurd (omega arith)
+refuse-accept r false v e = (refl, e)
 
--- a gate that repeats an answer
-pub refuse-again : (r : Refusal) (a : ℕ) (t : Bool) (g : Gate) → _when_else_ (Refuse r) t g ≡ Again a → g ≡ Again a
+-- ---- 10, 11 and repeats
+
+pub repeats : (same : Bool) (a : ℕ) (last u : Update) → same ≡ equalUpdates last u → asVerdict (repeated same a) ≡ again (some (last, a)) u
+unfolding asVerdict repeated again _when_else_
+repeats same a last u e = rw e (go (equalUpdates last u))
+  where
+    go : (t : Bool) → asVerdict (repeated t a) ≡ _when_else_ (repeat a) t (refuse 11)
+    go true = refl
+    go false = refl
+
+pub repeats-none : (a : ℕ) (u : Update) → asVerdict (repeated false a) ≡ again none u
+unfolding asVerdict repeated again _when_else_
+repeats-none a u = refl
+
+in-sequence : (a b c : Bool) (r t : Gate) {r′ t′ : Verdict} → asVerdict r ≡ r′ → asVerdict t ≡ t′
+    → asVerdict (bySequence (_when_else_ Out a (_when_else_ Repeat b (_when_else_ New c Out))) r t) ≡ _when_else_ (refuse 10) (a || not (b || c)) (_when_else_ r′ b t′)
+unfolding asVerdict bySequence _when_else_
+in-sequence true b c r t e f = refl
+in-sequence false true c r t e f = e
+in-sequence false false true r t e f = f
+in-sequence false false false r t e f = refl
+
+-- what is found of a numbered call, where its own tests and what is said of a repeat agree
+pub numbered-agrees : (p : Plain) (c : Cell) → c .number ≡ p .cell .last → (i : ℕ) (u : Update) (same : Bool) (g : Gate) → asVerdict (repeated same (c .answer)) ≡ again (p .cell .call) u → asVerdict g ≡ tests p u
+    → asVerdict (numbered c i same g) ≡ verdict p i u
+unfolding numbered verdict sequenceOf
+numbered-agrees p c n i u same g r t = rw n (in-sequence (eqb i 0) (eqb i (p .cell .last)) (eqb i (p .cell .last + 1)) _ g r t)
+
+again-not : (c : Option (Update × ℕ)) (u : Update) → again c u ≡ accept → ⊥
+unfolding again _when_else_
+again-not none u e = let z : _≡_ {A = ℕ} 0 1 = cc in omega arith
+again-not (some (last, a)) u e = go (equalUpdates last u) e
+  where
+    go : (t : Bool) → _when_else_ (repeat a) t (refuse 11) ≡ accept → ⊥
+    go true e = let z : _≡_ {A = ℕ} 0 1 = cc in omega arith
+    go false e = let z : _≡_ {A = ℕ} 0 1 = cc in omega arith
+
+in-turn : (b : Bool) (r t : Verdict) → (r ≡ accept → ⊥) → _when_else_ r b t ≡ accept → (b ≡ false) × (t ≡ accept)
 unfolding _when_else_
-refuse-again r a true g e = let z : _≡_ {A = ℕ} 0 1 = cc in absurd (omega arith)
-refuse-again r a false g e = e
+in-turn true r t h e = absurd (h e)
+in-turn false r t h e = (refl, e)
 
-pub go-again : (a : ℕ) → Go ≡ Again a → ⊥
-go-again a e = let z : _≡_ {A = ℕ} 0 1 = cc in omega arith
-
--- two gates with the same test agree if they agree where it fails
-pub refuse-both : (r : Refusal) (t : Bool) (g h : Gate) → (t ≡ false → g ≡ h) → _when_else_ (Refuse r) t g ≡ _when_else_ (Refuse r) t h
-unfolding _when_else_
-refuse-both r true g h e = refl
-refuse-both r false g h e = e refl
-
--- a repeat never lets go
-pub repeated-not-go : (t : Bool) (a : ℕ) → repeated t a ≡ Go → ⊥
-unfolding repeated _when_else_
-repeated-not-go true a e = let z : _≡_ {A = ℕ} 0 1 = cc in omega arith
-repeated-not-go false a e = let z : _≡_ {A = ℕ} 0 1 = cc in omega arith
-
--- a call that may go is new
-pub turn-go : (t : Turn) (a g : Gate) → (a ≡ Go → ⊥) → byTurn t a g ≡ Go → (t ≡ New) × (g ≡ Go)
-unfolding byTurn
-turn-go (Stop r) a g h e = let z : _≡_ {A = ℕ} 0 1 = cc in absurd (omega arith)
-turn-go Old a g h e = absurd (h e)
-turn-go New a g h e = (refl, e)
-
-turn-old : (t u : Bool) → _when_else_ (Stop Number) t (_when_else_ Old u New) ≡ Old → u ≡ true
-unfolding _when_else_
-turn-old true u e = let z : _≡_ {A = ℕ} 0 1 = cc in absurd (omega arith)
-turn-old false true e = refl
-turn-old false false e = let z : _≡_ {A = ℕ} 0 1 = cc in absurd (omega arith)
-
-turn-new : (t u : Bool) → _when_else_ (Stop Number) t (_when_else_ Old u New) ≡ New → (t ≡ false) × (u ≡ false)
-unfolding _when_else_
-turn-new true u e = let z : _≡_ {A = ℕ} 0 1 = cc in absurd (omega arith)
-turn-new false true e = let z : _≡_ {A = ℕ} 0 1 = cc in absurd (omega arith)
-turn-new false false e = (refl, refl)
-
-pub old-number : (last i : ℕ) → numberTurn last i ≡ Old → eqb i last ≡ true
-unfolding numberTurn
-old-number last i e = turn-old _ _ e
-
-pub new-number : (last i : ℕ) → numberTurn last i ≡ New → (eqb i last ≡ false) × (i ≡ last + 1)
-unfolding numberTurn
-new-number last i e =
-    let d = turn-new (eqb i 0 || not (eqb i last || eqb i (last + 1))) (eqb i last) e in
-    let n : not (eqb i last || eqb i (last + 1)) ≡ false = or-none (eqb i 0) _ (d .0) .1 in
-    let m : not (false || eqb i (last + 1)) ≡ false = rw (d .1) at n in
-    (d .1, eqb-true i (last + 1) (not-false (eqb i (last + 1)) m))
+-- an accepted call has the next number and passes every test of its own
+pub verdict-accept : (p : Plain) (i : ℕ) (u : Update) → verdict p i u ≡ accept → (i ≡ p .cell .last + 1) × (tests p u ≡ accept)
+unfolding verdict
+verdict-accept p i u e =
+    let a = refuse-accept 10 _ _ e in
+    let b = in-turn (eqb i (p .cell .last)) _ _ (again-not (p .cell .call) u) (a .1) in
+    let n : not (eqb i (p .cell .last) || eqb i (p .cell .last + 1)) ≡ false = or-none (eqb i 0) _ (a .0) .1 in
+    let m : not (false || eqb i (p .cell .last + 1)) ≡ false = rw (b .0) at n in
+    (eqb-true _ _ (not-false _ m), b .1)

@@ -11,10 +11,12 @@ use lib.Seq.{drop-cons, length-take-le}
 use lib.Dec.{ltb, eqb}
 use borrow.Author.Tests.{lt-ltb, le-ltb, eq-eqb, ne-eqb, ltb-false, eqb-false, not-false, not-true}
 use Rattle.base.specs.Answers.{Answer, done, numberOf, ofWritten}
+use Rattle.base.specs.Answers as answer
 use Rattle.base.specs.Parts.{over}
 use Rattle.base.specs.Tests.{_when_else_}
 use Rattle.base.specs.declared.Refusal.the-variants.{Coordinate, Damaged, Junction, Runs, Space, Vertices}
 use Rattle.base.specs.declared.Written.{Written}
+use Rattle.base.specs.declared.Written.the-variants as written
 use Rattle.base.proofs.Bools.{or-none}
 use Rattle.base.proofs.Parts.{over-behind}
 use Rattle.base.proofs.Tests.{when-no}
@@ -25,30 +27,26 @@ use Rattle.runs.specs.Orders.{listInto, sharp}
 use Rattle.runs.specs.Reverse.{orientInto, oriented}
 use Rattle.runs.specs.Words.{coordinate, placeOf, workerOf}
 use Rattle.runs.specs.declared.append.Appended.{Appended}
+use Rattle.runs.specs.declared.append.Appended.the-variants as appended
 use Rattle.runs.proofs.Laws.Append.{length-shifted, skip-yes}
 use Rattle.runs.proofs.Laws.Joints.{sharp-joinable}
 use Rattle.runs.proofs.Laws.Orders.{sharp-yes, steady-sharp}
 use Rattle.runs.proofs.Laws.Reverse.{oriented-long}
-use Rattle.store.specs.Gate.{badCurrent, badVertices, byGate, gateThen, sameJoin}
-use Rattle.store.specs.Join.{JoinReady, OpenReady, appendedOf, joinFiled, joinFiledAt, joinIn, joinStep, joinTest, joinUsed, openAfter, openAt, openCount, openNew, openSpace, openTest, writtenOf}
-use Rattle.store.specs.Plain.{join}
-use Rattle.store.specs.State.{Bufs, Outcome, after, bufs, ofAnswer, put, told}
-use Rattle.store.specs.Tests.{alike, named}
-use Rattle.store.specs.declared.gate.Gate.{Gate}
-use Rattle.store.specs.declared.gate.Gate.the-variants.{Go, Refuse}
+use Rattle.store.specs.Altered.{badCurrent, badVertices}
+use Rattle.store.specs.Inside.Counts.{appendedOf, writtenOf}
+use Rattle.store.specs.Inside.Fits.{JoinFits, JoinReady, OpenReady, openAfter}
+use Rattle.store.specs.Join.{alike, allNamed, joinFiled, joinFiledAt, joinTest, openAt, openCount, openNew, openSpace, openTest, sameJoin}
+use Rattle.store.specs.Numbered.{numbered}
+use Rattle.store.specs.State.{after, put}
+use Rattle.store.specs.declared.numbered.Gate.{Gate}
+use Rattle.store.specs.declared.numbered.Gate.the-variants.{Go, Refuse}
+use Rattle.store.specs.declared.state.Cell.{Cell}
 use Rattle.store.specs.declared.state.Current.{Current}
 use Rattle.store.specs.declared.state.Current.the-variants.{Nothing, Open}
 use Rattle.store.specs.declared.state.Last.{Last}
-use Rattle.store.specs.declared.state.Store.{Store}
-use Rattle.store.specs.declared.state.Told.{Told}
-use Rattle.store.specs.declared.state.Way.{Way}
-use Rattle.store.proofs.Laws.Gates.{refuse-go}
-use Rattle.store.proofs.Laws.Tested.{gate-let}
-use Rattle.base.specs.Answers as answer
-use Rattle.store.specs.declared.state.Answer.the-variants as answered
-use Rattle.runs.specs.declared.append.Appended.the-variants as appended
 use Rattle.store.specs.declared.state.Last.the-variants as last
-use Rattle.base.specs.declared.Written.the-variants as written
+use Rattle.store.specs.declared.state.Way.{Way}
+use Rattle.store.proofs.Laws.Tested.{refuse-go, said-go}
 
 -- ---- a repeat
 
@@ -130,37 +128,37 @@ pub ruleset joined-lasts = (joined-fresh, joined-add, joined-close, joined-join)
 
 -- ---- 9
 
-named-none : (W k : ℕ) → named W k [] ≡ true
-unfolding named
+named-none : (W k : ℕ) → allNamed W k [] ≡ true
+unfolding allNamed
 named-none W k = refl
 
-named-cons : (W k r : ℕ) (rs : List ℕ) → named W k (r ∷ rs) ≡ (eqb (workerOf (coordinate r)) W && ltb (placeOf (coordinate r)) k && named W k rs)
-unfolding named
+named-cons : (W k r : ℕ) (rs : List ℕ) → allNamed W k (r ∷ rs) ≡ (eqb (workerOf (coordinate r)) W && ltb (placeOf (coordinate r)) k && allNamed W k rs)
+unfolding allNamed
 named-cons W k r rs = refl
 
-module _ (W sets : ℕ) (piece : List ℕ) (i : ℕ) (k : named W sets piece ≡ named W sets (drop i piece)) where
+module _ (W sets : ℕ) (piece : List ℕ) (i : ℕ) (k : allNamed W sets piece ≡ allNamed W sets (drop i piece)) where
   module _ (h : i < length piece) (c w : ℕ) (x : c ≡ coordinate (getD piece i 0)) (y : w ≡ workerOf c) where
-    opens-name : named W sets piece ≡ (eqb w W && ltb (placeOf c) sets && named W sets (drop (i + 1) piece))
+    opens-name : allNamed W sets piece ≡ (eqb w W && ltb (placeOf c) sets && allNamed W sets (drop (i + 1) piece))
     opens-name =
-        k ∙ ap (named W sets) (drop-cons piece i 0 h) ∙ named-cons W sets _ _
-        ∙ ap₂ (λ (d j : ℕ). eqb (workerOf d) W && ltb (placeOf d) sets && named W sets (drop j piece)) (sym x) (sym (add-one i))
-        ∙ ap (λ (v : ℕ). eqb v W && ltb (placeOf c) sets && named W sets (drop (i + 1) piece)) (sym y)
+        k ∙ ap (allNamed W sets) (drop-cons piece i 0 h) ∙ named-cons W sets _ _
+        ∙ ap₂ (λ (d j : ℕ). eqb (workerOf d) W && ltb (placeOf d) sets && allNamed W sets (drop j piece)) (sym x) (sym (add-one i))
+        ∙ ap (λ (v : ℕ). eqb v W && ltb (placeOf c) sets && allNamed W sets (drop (i + 1) piece)) (sym y)
 
-    pub name-other : (w ≡ W → ⊥) → false ≡ named W sets piece
-    name-other n = sym (opens-name ∙ ap (λ (t : Bool). t && ltb (placeOf c) sets && named W sets (drop (i + 1) piece)) (ne-eqb w W n))
+    pub name-other : (w ≡ W → ⊥) → false ≡ allNamed W sets piece
+    name-other n = sym (opens-name ∙ ap (λ (t : Bool). t && ltb (placeOf c) sets && allNamed W sets (drop (i + 1) piece)) (ne-eqb w W n))
 
-    pub name-far : (p : ℕ) → w ≡ W → p ≡ placeOf c → sets ≤ p → false ≡ named W sets piece
+    pub name-far : (p : ℕ) → w ≡ W → p ≡ placeOf c → sets ≤ p → false ≡ allNamed W sets piece
     name-far p e q l =
         let m : sets ≤ placeOf c = rw q at l in
-        sym (opens-name ∙ ap₂ (λ (t u : Bool). t && u && named W sets (drop (i + 1) piece)) (eq-eqb w W e) (le-ltb (placeOf c) sets m))
+        sym (opens-name ∙ ap₂ (λ (t u : Bool). t && u && allNamed W sets (drop (i + 1) piece)) (eq-eqb w W e) (le-ltb (placeOf c) sets m))
 
-    pub name-next : (p : ℕ) → w ≡ W → p ≡ placeOf c → p < sets → named W sets piece ≡ named W sets (drop (i + 1) piece)
+    pub name-next : (p : ℕ) → w ≡ W → p ≡ placeOf c → p < sets → allNamed W sets piece ≡ allNamed W sets (drop (i + 1) piece)
     name-next p e q l =
         let m : placeOf c < sets = rw q at l in
-        opens-name ∙ ap₂ (λ (t u : Bool). t && u && named W sets (drop (i + 1) piece)) (eq-eqb w W e) (lt-ltb (placeOf c) sets m)
+        opens-name ∙ ap₂ (λ (t u : Bool). t && u && allNamed W sets (drop (i + 1) piece)) (eq-eqb w W e) (lt-ltb (placeOf c) sets m)
 
-  pub name-end : length piece ≤ i → true ≡ named W sets piece
-  name-end h = sym (k ∙ ap (named W sets) (drop-of-length-le piece h) ∙ named-none W sets)
+  pub name-end : length piece ≤ i → true ≡ allNamed W sets piece
+  name-end h = sym (k ∙ ap (allNamed W sets) (drop-of-length-le piece h) ∙ named-none W sets)
 
 -- ---- 7, 5, 8, 3
 
@@ -188,24 +186,24 @@ at-within (Open m) used len h = h
 pub open-within : (at : ℕ) (k : Current) (used len : ℕ) → at ≡ openAt k used → used ≤ len → at ≤ len
 open-within at k used len e h = rw e (at-within k used len h)
 
-pub space-open : (at : ℕ) (s : Store) (new held : ℕ) → at ≡ openAt (s .current) (s .used .opened) → s .lengths .opened - at < new → Refuse Space ≡ openSpace s new held
+pub space-open : (at : ℕ) (c : Cell) (new held : ℕ) → at ≡ openAt (c .current) (c .opened .used) → c .opened .length - at < new → Refuse Space ≡ openSpace c new held
 unfolding openSpace _when_else_
-space-open at s new held e h =
-    let l : s .lengths .opened < openAt (s .current) (s .used .opened) + new = omega arith in
+space-open at c new held e h =
+    let l : c .opened .length < openAt (c .current) (c .opened .used) + new = omega arith in
     rw (lt-ltb _ _ l)
 
-pub space-held : (at : ℕ) (s : Store) (new held : ℕ) → at ≡ openAt (s .current) (s .used .opened) → s .used .opened ≤ s .lengths .opened → new ≤ s .lengths .opened - at → s .lengths .held < held → Refuse Space ≡ openSpace s new held
+pub space-held : (at : ℕ) (c : Cell) (new held : ℕ) → at ≡ openAt (c .current) (c .opened .used) → c .opened .used ≤ c .opened .length → new ≤ c .opened .length - at → c .held .length < held → Refuse Space ≡ openSpace c new held
 unfolding openSpace _when_else_
-space-held at s new held e u h l =
-    let w = at-within (s .current) (s .used .opened) (s .lengths .opened) u in
-    let m : openAt (s .current) (s .used .opened) + new ≤ s .lengths .opened = omega arith in
+space-held at c new held e u h l =
+    let w = at-within (c .current) (c .opened .used) (c .opened .length) u in
+    let m : openAt (c .current) (c .opened .used) + new ≤ c .opened .length = omega arith in
     rw (le-ltb _ _ m, lt-ltb _ _ l)
 
-pub space-go : (at : ℕ) (s : Store) (new held : ℕ) → at ≡ openAt (s .current) (s .used .opened) → s .used .opened ≤ s .lengths .opened → new ≤ s .lengths .opened - at → held ≤ s .lengths .held → Go ≡ openSpace s new held
+pub space-go : (at : ℕ) (c : Cell) (new held : ℕ) → at ≡ openAt (c .current) (c .opened .used) → c .opened .used ≤ c .opened .length → new ≤ c .opened .length - at → held ≤ c .held .length → Go ≡ openSpace c new held
 unfolding openSpace _when_else_
-space-go at s new held e u h l =
-    let w = at-within (s .current) (s .used .opened) (s .lengths .opened) u in
-    let m : openAt (s .current) (s .used .opened) + new ≤ s .lengths .opened = omega arith in
+space-go at c new held e u h l =
+    let w = at-within (c .current) (c .opened .used) (c .opened .length) u in
+    let m : openAt (c .current) (c .opened .used) + new ≤ c .opened .length = omega arith in
     rw (le-ltb _ _ m, le-ltb _ _ l)
 
 pub ruleset spaces = (space-open, space-held, space-go)
@@ -216,59 +214,59 @@ unfolding openNew appendix
 new-runs m old op e =
     length-shifted (m - 1) (drop (skip (lastCoord old) op) op) ∙ ap (λ (k : ℕ). length (drop k op)) (skip-yes (lastCoord old) op e) ∙ length-drop 1 op
 
-pub meet-damaged : (r : Bool) (s : Store) (m : ℕ) (old op : List ℕ) (rest : Gate) → s .current ≡ Open m → r ≡ sharp m old → not r ≡ true → Refuse Damaged ≡ openTest (s .current) old op rest
+pub meet-damaged : (r : Bool) (c : Cell) (m : ℕ) (old op : List ℕ) (rest : Gate) → c .current ≡ Open m → r ≡ sharp m old → not r ≡ true → Refuse Damaged ≡ openTest (c .current) old op rest
 unfolding openTest _when_else_
-meet-damaged r s m old op rest e h k = rw (e, ← h, k)
+meet-damaged r c m old op rest e h k = rw (e, ← h, k)
 
-pub meet-junction : (r : Bool) (l f : ℕ) (s : Store) (m : ℕ) (old op : List ℕ) (rest : Gate) → s .current ≡ Open m → r ≡ sharp m old → not r ≡ false → l ≡ lastCoord old → f ≡ firstCoord op → (l ≡ f → ⊥) → Refuse Junction ≡ openTest (s .current) old op rest
+pub meet-junction : (r : Bool) (l f : ℕ) (c : Cell) (m : ℕ) (old op : List ℕ) (rest : Gate) → c .current ≡ Open m → r ≡ sharp m old → not r ≡ false → l ≡ lastCoord old → f ≡ firstCoord op → (l ≡ f → ⊥) → Refuse Junction ≡ openTest (c .current) old op rest
 unfolding openTest _when_else_
-meet-junction r l f s m old op rest e h k x y n =
+meet-junction r l f c m old op rest e h k x y n =
     let z : lastCoord old ≡ firstCoord op → ⊥ = λ q. n (x ∙ q ∙ sym y) in
     rw (e, ← h, k, ne-eqb (lastCoord old) (firstCoord op) z)
 
-pub meet-space : (r : Bool) (l f : ℕ) (g : Gate) (s : Store) (m n : ℕ) (back : Bool) (old piece : List ℕ) → s .current ≡ Open m → r ≡ sharp m old → not r ≡ false → l ≡ lastCoord old → f ≡ firstCoord (oriented back n piece) → l ≡ f → g ≡ openSpace s (length piece - 1) (length piece)
-    → g ≡ openTest (s .current) old (oriented back n piece) (openSpace s (length (openNew (s .current) old (oriented back n piece))) (length piece))
+pub meet-space : (r : Bool) (l f : ℕ) (g : Gate) (c : Cell) (m n : ℕ) (back : Bool) (old piece : List ℕ) → c .current ≡ Open m → r ≡ sharp m old → not r ≡ false → l ≡ lastCoord old → f ≡ firstCoord (oriented back n piece) → l ≡ f → g ≡ openSpace c (length piece - 1) (length piece)
+    → g ≡ openTest (c .current) old (oriented back n piece) (openSpace c (length (openNew (c .current) old (oriented back n piece))) (length piece))
 unfolding openTest _when_else_
-meet-space r l f g s m n back old piece e h k x y q d =
+meet-space r l f g c m n back old piece e h k x y q d =
     let z : lastCoord old ≡ firstCoord (oriented back n piece) = sym x ∙ q ∙ y in
-    let w : length (openNew (s .current) old (oriented back n piece)) ≡ length piece - 1 = ap (λ (c : Current). length (openNew c old (oriented back n piece))) e ∙ new-runs m old (oriented back n piece) z ∙ ap (λ (j : ℕ). j - 1) (oriented-long back n piece) in
-    d ∙ ap (λ (j : ℕ). openSpace s j (length piece)) (sym w) ∙ rw (e, ← h, k, eq-eqb (lastCoord old) (firstCoord (oriented back n piece)) z)
+    let w : length (openNew (c .current) old (oriented back n piece)) ≡ length piece - 1 = ap (λ (o : Current). length (openNew o old (oriented back n piece))) e ∙ new-runs m old (oriented back n piece) z ∙ ap (λ (j : ℕ). j - 1) (oriented-long back n piece) in
+    d ∙ ap (λ (j : ℕ). openSpace c j (length piece)) (sym w) ∙ rw (e, ← h, k, eq-eqb (lastCoord old) (firstCoord (oriented back n piece)) z)
 
-pub meet-first : (g : Gate) (s : Store) (n : ℕ) (back : Bool) (old piece : List ℕ) → s .current ≡ Nothing → g ≡ openSpace s (length piece) (length piece)
-    → g ≡ openTest (s .current) old (oriented back n piece) (openSpace s (length (openNew (s .current) old (oriented back n piece))) (length piece))
+pub meet-first : (g : Gate) (c : Cell) (n : ℕ) (back : Bool) (old piece : List ℕ) → c .current ≡ Nothing → g ≡ openSpace c (length piece) (length piece)
+    → g ≡ openTest (c .current) old (oriented back n piece) (openSpace c (length (openNew (c .current) old (oriented back n piece))) (length piece))
 unfolding openTest openNew
-meet-first g s n back old piece e d = d ∙ ap (λ (j : ℕ). openSpace s j (length piece)) (sym (oriented-long back n piece)) ∙ rw e
+meet-first g c n back old piece e d = d ∙ ap (λ (j : ℕ). openSpace c j (length piece)) (sym (oriented-long back n piece)) ∙ rw e
 
 pub ruleset meetings = (meet-damaged, meet-junction, meet-space, meet-first)
 
-pub join-zero : (s : Store) (opened : List ℕ) (n : ℕ) (back : Bool) (piece : List ℕ) → n ≡ 0 → Refuse Vertices ≡ joinTest s opened n back piece
+pub join-zero : (c : Cell) (opened : List ℕ) (n : ℕ) (back : Bool) (piece : List ℕ) → n ≡ 0 → Refuse Vertices ≡ joinTest c opened n back piece
 unfolding joinTest _when_else_
-join-zero s opened n back piece e = rw (eq-eqb n 0 e)
+join-zero c opened n back piece e = rw (eq-eqb n 0 e)
 
-pub join-most : (c : ℕ) (s : Store) (opened : List ℕ) (n : ℕ) (back : Bool) (piece : List ℕ) → (n ≡ 0 → ⊥) → c ≡ openCount (s .current) n → 16777215 < c → Refuse Vertices ≡ joinTest s opened n back piece
+pub join-most : (v : ℕ) (c : Cell) (opened : List ℕ) (n : ℕ) (back : Bool) (piece : List ℕ) → (n ≡ 0 → ⊥) → v ≡ openCount (c .current) n → 16777215 < v → Refuse Vertices ≡ joinTest c opened n back piece
 unfolding joinTest _when_else_
-join-most c s opened n back piece z e h =
-    let l : 16777215 < openCount (s .current) n = omega arith in
+join-most v c opened n back piece z e h =
+    let l : 16777215 < openCount (c .current) n = omega arith in
     rw (ne-eqb n 0 z, lt-ltb _ _ l)
 
-pub join-sharp : (c : ℕ) (r : Bool) (s : Store) (opened : List ℕ) (n : ℕ) (back : Bool) (piece : List ℕ) → (n ≡ 0 → ⊥) → c ≡ openCount (s .current) n → c ≤ 16777215 → r ≡ sharp n piece → not r ≡ true → Refuse Runs ≡ joinTest s opened n back piece
+pub join-sharp : (v : ℕ) (r : Bool) (c : Cell) (opened : List ℕ) (n : ℕ) (back : Bool) (piece : List ℕ) → (n ≡ 0 → ⊥) → v ≡ openCount (c .current) n → v ≤ 16777215 → r ≡ sharp n piece → not r ≡ true → Refuse Runs ≡ joinTest c opened n back piece
 unfolding joinTest _when_else_
-join-sharp c r s opened n back piece z e h q k =
-    let l : openCount (s .current) n ≤ 16777215 = omega arith in
+join-sharp v r c opened n back piece z e h q k =
+    let l : openCount (c .current) n ≤ 16777215 = omega arith in
     rw (ne-eqb n 0 z, le-ltb _ _ l, ← q, k)
 
-pub join-named : (c : ℕ) (r a : Bool) (s : Store) (opened : List ℕ) (n : ℕ) (back : Bool) (piece : List ℕ) → (n ≡ 0 → ⊥) → c ≡ openCount (s .current) n → c ≤ 16777215 → r ≡ sharp n piece → not r ≡ false → a ≡ named (s .worker) (s .used .sets) piece → not a ≡ true → Refuse Coordinate ≡ joinTest s opened n back piece
+pub join-named : (v : ℕ) (r a : Bool) (c : Cell) (opened : List ℕ) (n : ℕ) (back : Bool) (piece : List ℕ) → (n ≡ 0 → ⊥) → v ≡ openCount (c .current) n → v ≤ 16777215 → r ≡ sharp n piece → not r ≡ false → a ≡ allNamed (c .worker) (c .sets) piece → not a ≡ true → Refuse Coordinate ≡ joinTest c opened n back piece
 unfolding joinTest _when_else_
-join-named c r a s opened n back piece z e h q k x y =
-    let l : openCount (s .current) n ≤ 16777215 = omega arith in
+join-named v r a c opened n back piece z e h q k x y =
+    let l : openCount (c .current) n ≤ 16777215 = omega arith in
     rw (ne-eqb n 0 z, le-ltb _ _ l, ← q, k, ← x, y)
 
-pub join-meet : (c : ℕ) (r a : Bool) (g : Gate) (s : Store) (opened : List ℕ) (n : ℕ) (back : Bool) (piece : List ℕ) → (n ≡ 0 → ⊥) → c ≡ openCount (s .current) n → c ≤ 16777215 → r ≡ sharp n piece → not r ≡ false → a ≡ named (s .worker) (s .used .sets) piece → not a ≡ false
-    → g ≡ openTest (s .current) (take (s .used .opened) opened) (oriented back n piece) (openSpace s (length (openNew (s .current) (take (s .used .opened) opened) (oriented back n piece))) (length piece))
-    → g ≡ joinTest s opened n back piece
+pub join-meet : (v : ℕ) (r a : Bool) (g : Gate) (c : Cell) (opened : List ℕ) (n : ℕ) (back : Bool) (piece : List ℕ) → (n ≡ 0 → ⊥) → v ≡ openCount (c .current) n → v ≤ 16777215 → r ≡ sharp n piece → not r ≡ false → a ≡ allNamed (c .worker) (c .sets) piece → not a ≡ false
+    → g ≡ openTest (c .current) (take (c .opened .used) opened) (oriented back n piece) (openSpace c (length (openNew (c .current) (take (c .opened .used) opened) (oriented back n piece))) (length piece))
+    → g ≡ joinTest c opened n back piece
 unfolding joinTest _when_else_
-join-meet c r a g s opened n back piece z e h q k x y d =
-    let l : openCount (s .current) n ≤ 16777215 = omega arith in
+join-meet v r a g c opened n back piece z e h q k x y d =
+    let l : openCount (c .current) n ≤ 16777215 = omega arith in
     d ∙ rw (ne-eqb n 0 z, le-ltb _ _ l, ← q, k, ← x, y)
 
 pub ruleset join-tests-cases = (join-zero, join-most, join-sharp, join-named, join-meet)
@@ -286,20 +284,18 @@ open-let (Open m) old op rest e =
     let d = refuse-go _ _ _ (a .1) in
     (when-no _ _ _ (a .0) ∙ when-no _ _ _ (d .0), d .1)
 
-pub join-ready : (g : Gate) (s : Store) (b : Bufs) (i n : ℕ) (back : Bool) (piece : List ℕ) → g ≡ gateThen s b i (join n back piece) (joinTest s (b .opened) n back piece) → g ≡ Go → JoinReady s n back piece (b .opened) (length (b .held))
+pub join-ready : (g : Gate) (c : Cell) (i n : ℕ) (back again : Bool) (piece opened : List ℕ) (held : ℕ) → JoinFits c (length opened) held → g ≡ numbered c i again (joinTest c opened n back piece) → g ≡ Go → JoinReady c n back piece opened held
 unfolding joinTest openSpace
-join-ready g s b i n back piece e h =
-    let k = gate-let g s b i (join n back piece) (joinTest s (b .opened) n back piece) e h in
-    let o = k .0 in
-    let a7 = refuse-go _ _ _ (k .1) in
+join-ready g c i n back again piece opened held o e h =
+    let a7 = refuse-go _ _ _ (said-go g c i again (joinTest c opened n back piece) e h) in
     let a6 = refuse-go _ _ _ (a7 .1) in
     let a9 = refuse-go _ _ _ (a6 .1) in
-    let a8 = open-let (s .current) (take (s .used .opened) (b .opened)) (oriented back n piece) _ (a9 .1) in
+    let a8 = open-let (c .current) (take (c .opened .used) opened) (oriented back n piece) _ (a9 .1) in
     let a3 = refuse-go _ _ _ (a8 .1) in
     let z : n ≡ 0 → ⊥ = eqb-false n 0 (or-none _ _ (a7 .0) .0) in
-    let w : openCount (s .current) n ≤ 16777215 = ltb-false 16777215 _ (or-none (eqb n 0) _ (a7 .0) .1) in
-    let x : openAt (s .current) (s .used .opened) + length (openNew (s .current) (take (s .used .opened) (b .opened)) (oriented back n piece)) ≤ s .lengths .opened = ltb-false _ _ (or-none _ _ (a3 .0) .0) in
-    let y : length piece ≤ s .lengths .held = ltb-false _ _ (or-none (ltb (s .lengths .opened) (openAt (s .current) (s .used .opened) + length (openNew (s .current) (take (s .used .opened) (b .opened)) (oriented back n piece)))) _ (a3 .0) .1) in
+    let w : openCount (c .current) n ≤ 16777215 = ltb-false 16777215 _ (or-none (eqb n 0) _ (a7 .0) .1) in
+    let x : openAt (c .current) (c .opened .used) + length (openNew (c .current) (take (c .opened .used) opened) (oriented back n piece)) ≤ c .opened .length = ltb-false _ _ (or-none _ _ (a3 .0) .0) in
+    let y : length piece ≤ c .held .length = ltb-false _ _ (or-none (ltb (c .opened .length) (openAt (c .current) (c .opened .used) + length (openNew (c .current) (take (c .opened .used) opened) (oriented back n piece)))) _ (a3 .0) .1) in
     record {
       ready =
           record {
@@ -307,11 +303,11 @@ join-ready g s b i n back piece e h =
             few = w;
             isSharp = not-false _ (a6 .0);
             current = o .current;
-            used = o .opened;
+            used = o .opened .inside;
             meets = a8 .0;
-            room = rw (o .lengths) at x;
+            room = omega (arith, x, o .opened .same);
           };
-      room = rw (o .lengths) at y;
+      room = omega (arith, y, o .held .same);
     }
 
 -- ---- the open runs are written
@@ -320,12 +316,12 @@ room-first : (c : Current) (used : ℕ) (old op : List ℕ) (len : ℕ) → c �
 unfolding openAt openNew
 room-first c used old op len e r = let r′ : 0 + length op ≤ len = rw e at r in omega arith
 
-abbrev numbered : ℕ → List ℕ → ℕ × List ℕ
-numbered k l = (k, l)
+abbrev counted : ℕ → List ℕ → ℕ × List ℕ
+counted k l = (k, l)
 
 first-case : (c : Current) (used : ℕ) (old op opened : List ℕ) → c ≡ Nothing → _≡_ {A = ℕ × List ℕ} (openAt c used + length (openNew c old op), put (openAt c used) (openNew c old op) opened) (length op, over op opened)
 unfolding openAt openNew put
-first-case c used old op opened e = rw e (ap (λ (k : ℕ). numbered k (over op opened)) (zero-add (length op)))
+first-case c used old op opened e = rw e (ap (λ (k : ℕ). counted k (over op opened)) (zero-add (length op)))
 
 written-pair : (w : Written) (out : List ℕ) (k : ℕ) (new : List ℕ) → _≡_ {A = Answer × List ℕ} (ofWritten w, out) (done (k ∷ []), new) → _≡_ {A = ℕ × List ℕ} (writtenOf w, out) (k, new)
 written-pair (written.Done j) out k new e =
@@ -351,11 +347,11 @@ unfolding put
 over-put used new old h =
     sym (over-behind (take used old) new old) ∙ ap (λ (k : ℕ). take used old ++ over new (drop k old)) (length-take-le used old h)
 
-module _ (s : Store) (n : ℕ) (back : Bool) (piece opened : List ℕ) (a : OpenReady s n back piece opened) where
+module _ (c : Cell) (n : ℕ) (back : Bool) (piece opened : List ℕ) (a : OpenReady c n back piece opened) where
   abbrev old : List ℕ
-  old = take (s .used .opened) opened
+  old = take (c .opened .used) opened
 
-  few-first : s .current ≡ Nothing → n ≤ 16777215
+  few-first : c .current ≡ Nothing → n ≤ 16777215
   unfolding openCount
   few-first e = rw e at (a .few)
 
@@ -365,42 +361,42 @@ module _ (s : Store) (n : ℕ) (back : Bool) (piece opened : List ℕ) (a : Open
       let k : length (oriented r n piece) ≤ length out = omega (arith, oriented-long r n piece) in
       rw (le-ltb _ _ few, steady-sharp n piece (a .isSharp), le-ltb _ _ k)
 
-  pub first-put : (w : Written) (k : ℕ) (out : List ℕ) → s .current ≡ Nothing → k ≡ writtenOf w → _≡_ {A = Answer × List ℕ} (ofWritten w, out) (orientInto piece n back opened) → _≡_ {A = ℕ × List ℕ} (k, out) (openAfter s n back piece opened)
+  pub first-put : (w : Written) (k : ℕ) (out : List ℕ) → c .current ≡ Nothing → k ≡ writtenOf w → _≡_ {A = Answer × List ℕ} (ofWritten w, out) (orientInto piece n back opened) → _≡_ {A = ℕ × List ℕ} (k, out) (openAfter c n back piece opened)
   first-put w k out e h q =
-      let r : length (oriented back n piece) ≤ length opened = room-first (s .current) (s .used .opened) old (oriented back n piece) (length opened) e (a .room) in
+      let r : length (oriented back n piece) ≤ length opened = room-first (c .current) (c .opened .used) old (oriented back n piece) (length opened) e (a .room) in
       let l : length piece ≤ length opened = omega (arith, oriented-long back n piece) in
       let d : _≡_ {A = Answer × List ℕ} (ofWritten w, out) (done (length (oriented back n piece) ∷ []), over (oriented back n piece) opened) = q ∙ oriented-into back opened (few-first e) l in
-      ap (λ (j : ℕ). numbered j out) h ∙ written-pair w out (length (oriented back n piece)) (over (oriented back n piece) opened) d ∙ sym (first-case (s .current) (s .used .opened) old (oriented back n piece) opened e)
+      ap (λ (j : ℕ). counted j out) h ∙ written-pair w out (length (oriented back n piece)) (over (oriented back n piece) opened) d ∙ sym (first-case (c .current) (c .opened .used) old (oriented back n piece) opened e)
 
-  module _ (m : ℕ) (e : s .current ≡ Open m) where
-    open-sharp : (c : Current) (k : ℕ) (op : List ℕ) → c ≡ Open k → openTest c old op Go ≡ Go → sharp k old ≡ true
+  module _ (m : ℕ) (e : c .current ≡ Open m) where
+    open-sharp : (o : Current) (k : ℕ) (op : List ℕ) → o ≡ Open k → openTest o old op Go ≡ Go → sharp k old ≡ true
     unfolding openTest
-    open-sharp c k op q h = let h′ = rw q at h in not-false _ (refuse-go _ _ _ h′ .0)
+    open-sharp o k op q h = let h′ = rw q at h in not-false _ (refuse-go _ _ _ h′ .0)
 
     counts-fine : badCounts m n ≡ false
     unfolding badCounts openCount badCurrent badVertices
     counts-fine =
-        let c = rw e at (a .current) in
-        let z : m ≡ 0 → ⊥ = eqb-false m 0 (or-none _ _ c .0) in
+        let b = rw e at (a .current) in
+        let z : m ≡ 0 → ⊥ = eqb-false m 0 (or-none _ _ b .0) in
         let f : m + n - 1 ≤ 16777215 = rw e at (a .few) in
         let p = a .some in
         let y : n ≡ 0 → ⊥ = λ q. omega arith in
         rw (ne-eqb m 0 z, ne-eqb n 0 y, le-ltb _ _ f)
 
-    appended-into : appendInto opened (s .used .opened) m piece n back ≡ (done (length (old ++ appendix (lastCoord old) m (oriented back n piece)) ∷ (m + n - 1) ∷ []), over (old ++ appendix (lastCoord old) m (oriented back n piece)) opened)
+    appended-into : appendInto opened (c .opened .used) m piece n back ≡ (done (length (old ++ appendix (lastCoord old) m (oriented back n piece)) ∷ (m + n - 1) ∷ []), over (old ++ appendix (lastCoord old) m (oriented back n piece)) opened)
     unfolding appendInto resultInto appendRuns openAt openNew _when_else_
     appended-into =
-        let r : s .used .opened + length (appendix (lastCoord old) m (oriented back n piece)) ≤ length opened = rw e at (a .room) in
-        let l : length (old ++ appendix (lastCoord old) m (oriented back n piece)) ≤ length opened = omega (arith, length-append old (appendix (lastCoord old) m (oriented back n piece)), length-take-le (s .used .opened) opened (a .used)) in
-        rw (le-ltb _ _ (a .used), counts-fine, sharp-joinable m old (open-sharp (s .current) m (oriented back n piece) e (a .meets)), a .isSharp, le-ltb _ _ l)
+        let r : c .opened .used + length (appendix (lastCoord old) m (oriented back n piece)) ≤ length opened = rw e at (a .room) in
+        let l : length (old ++ appendix (lastCoord old) m (oriented back n piece)) ≤ length opened = omega (arith, length-append old (appendix (lastCoord old) m (oriented back n piece)), length-take-le (c .opened .used) opened (a .used)) in
+        rw (le-ltb _ _ (a .used), counts-fine, sharp-joinable m old (open-sharp (c .current) m (oriented back n piece) e (a .meets)), a .isSharp, le-ltb _ _ l)
 
-    pub behind-put : (w : Appended) (k : ℕ) (out : List ℕ) → k ≡ appendedOf w → _≡_ {A = Answer × List ℕ} (ofAppended w, out) (appendInto opened (s .used .opened) m piece n back) → _≡_ {A = ℕ × List ℕ} (k, out) (openAfter s n back piece opened)
+    pub behind-put : (w : Appended) (k : ℕ) (out : List ℕ) → k ≡ appendedOf w → _≡_ {A = Answer × List ℕ} (ofAppended w, out) (appendInto opened (c .opened .used) m piece n back) → _≡_ {A = ℕ × List ℕ} (k, out) (openAfter c n back piece opened)
     unfolding openAt openNew
     behind-put w k out h q =
         let new : List ℕ = appendix (lastCoord old) m (oriented back n piece) in
-        let l : length (old ++ appendix (lastCoord old) m (oriented back n piece)) ≡ s .used .opened + length (appendix (lastCoord old) m (oriented back n piece)) = length-append old new ∙ ap (λ (j : ℕ). j + length new) (length-take-le (s .used .opened) opened (a .used)) in
+        let l : length (old ++ appendix (lastCoord old) m (oriented back n piece)) ≡ c .opened .used + length (appendix (lastCoord old) m (oriented back n piece)) = length-append old new ∙ ap (λ (j : ℕ). j + length new) (length-take-le (c .opened .used) opened (a .used)) in
         let d = appended-pair w out _ _ _ (q ∙ appended-into) in
-        rw (e, h) (d ∙ ap₂ (λ (u : ℕ) (v : List ℕ). (u, v)) l (over-put (s .used .opened) new opened (a .used)))
+        rw (e, h) (d ∙ ap₂ (λ (u : ℕ) (v : List ℕ). (u, v)) l (over-put (c .opened .used) new opened (a .used)))
 
 -- ---- with the held piece and the state
 
@@ -411,23 +407,15 @@ few-piece (Open m) n b h =
     let z : m ≡ 0 → ⊥ = eqb-false m 0 (or-none _ _ b .0) in
     omega arith
 
-module _ (s : Store) (n : ℕ) (back : Bool) (piece opened held : List ℕ) (j : JoinReady s n back piece opened (length held)) where
+module _ (c : Cell) (n : ℕ) (back : Bool) (piece opened held : List ℕ) (j : JoinReady c n back piece opened (length held)) where
   pub held-piece : (a : Answer) (held′ : List ℕ) → _≡_ {A = Answer × List ℕ} (a, held′) (orientInto piece n false held) → held′ ≡ over piece held
-  held-piece a held′ e = ap (λ (y : Answer × List ℕ). y .1) (e ∙ oriented-into s n back piece opened (j .ready) false held (few-piece (s .current) n (j .ready .current) (j .ready .few)) (j .room))
+  held-piece a held′ e = ap (λ (y : Answer × List ℕ). y .1) (e ∙ oriented-into c n back piece opened (j .ready) false held (few-piece (c .current) n (j .ready .current) (j .ready .few)) (j .room))
 
-  pub joined-filed : (i k count : ℕ) (a : Answer) (opened′ held′ : List ℕ) (t : Told) → _≡_ {A = ℕ × List ℕ} (k, opened′) (openAfter s n back piece opened) → _≡_ {A = Answer × List ℕ} (a, held′) (orientInto piece n false held)
-      → count ≡ openCount (s .current) n → t ≡ told (after s i (last.Join n back) count (joinUsed (s .used) k (length piece)) (Open count)) (answered.Done count)
-      → _≡_ {A = Answer × Store × List ℕ × List ℕ} (ofAnswer (t .answer), t .store, opened′, held′) (joinFiled s i n back piece opened held)
+  pub joined-filed : (i k count : ℕ) (a : Answer) (opened′ held′ : List ℕ) (d : Cell) → _≡_ {A = ℕ × List ℕ} (k, opened′) (openAfter c n back piece opened) → _≡_ {A = Answer × List ℕ} (a, held′) (orientInto piece n false held)
+      → count ≡ openCount (c .current) n → d ≡ after c (c .records .used) (c .sets) k (length piece) (Open count) i (last.Join n back) count
+      → _≡_ {A = Answer × Cell × List ℕ × List ℕ} (done (count ∷ []), d, opened′, held′) (joinFiled c i n back piece opened held)
   unfolding joinFiledAt
-  joined-filed i k count a opened′ held′ t p q c e =
-      let x : k ≡ openAt (s .current) (s .used .opened) + length (openNew (s .current) (take (s .used .opened) opened) (oriented back n piece)) = ap (λ (y : ℕ × List ℕ). y .0) p in
-      let y : opened′ ≡ put (openAt (s .current) (s .used .opened)) (openNew (s .current) (take (s .used .opened) opened) (oriented back n piece)) opened = ap (λ (y : ℕ × List ℕ). y .1) p in
-      rw (e, c, x, y, held-piece a held′ q)
-
--- ---- the whole call
-
-pub joined-step : (g : Gate) (x : Answer) (st s : Store) (i m : ℕ) (back : Bool) (piece f n o h k t o′ h′ : List ℕ) → g ≡ gateThen s (bufs f n o h k t) i (join m back piece) (joinTest s o m back piece) → g ≡ Go
-    → _≡_ {A = Answer × Store × List ℕ × List ℕ} (x, st, o′, h′) (joinFiled s i m back piece o h)
-    → _≡_ {A = Outcome} (x, st, bufs f n o′ h′ k t) (joinStep s (bufs f n o h k t) i m back piece)
-unfolding joinStep byGate
-joined-step g x st s i m back piece f n o h k t o′ h′ e q p = rw (sym e ∙ q) (ap (λ (r : Answer × Store × List ℕ × List ℕ). joinIn r (bufs f n o h k t)) p)
+  joined-filed i k count a opened′ held′ d p q m e =
+      let x : k ≡ openAt (c .current) (c .opened .used) + length (openNew (c .current) (take (c .opened .used) opened) (oriented back n piece)) = ap (λ (y : ℕ × List ℕ). y .0) p in
+      let y : opened′ ≡ put (openAt (c .current) (c .opened .used)) (openNew (c .current) (take (c .opened .used) opened) (oriented back n piece)) opened = ap (λ (y : ℕ × List ℕ). y .1) p in
+      rw (e, m, x, y, held-piece a held′ q)

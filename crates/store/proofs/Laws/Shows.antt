@@ -10,94 +10,111 @@ use native.Mathlib.Numerals.{add-one}
 use lib.ListN.{length, getD, take, drop}
 use lib.Seq.{getD-take}
 use lib.Dec.{ltb, leb}
-use borrow.Author.Tests.{le-ltb, leb-false}
-use Rattle.base.specs.Answers.{done}
+use borrow.Author.Tests.{le-ltb, leb-false, lt-leb}
+use Rattle.base.specs.Answers.{Answer, done, refused}
 use Rattle.base.specs.Parts.{over}
 use Rattle.base.specs.Tests.{_when_else_}
 use Rattle.base.proofs.All.{all-at}
 use Rattle.codec.specs.Flat.{flat}
-use Rattle.runs.specs.Colours.{colourAt}
-use Rattle.store.specs.Demand.{filedRuns, leaves, look, looked}
-use Rattle.store.specs.Filed.{setAt}
-use Rattle.store.specs.Plain.{Plain, Unitig, bytesOf, coordAt, idsAt, noUnitig, noVertex, plainShow, refused, shown}
-use Rattle.store.specs.Show.{coordFrom, coordIn, noPlace, showStep, shownBy, startBy, vertexSet}
-use Rattle.store.specs.State.{Bufs}
+use Rattle.runs.specs.Bytes.{found, sharpColour, sharpColourIn}
+use Rattle.runs.specs.Orders.{mostVertices}
+use Rattle.runs.proofs.Laws.Widths.{Narrow}
+use Rattle.store.specs.Demand.{Seen, asSeen, runsOf, seen, tableOf}
+use Rattle.store.specs.Plain.{Plain, PlainCell, SharedLengths, Unitig, bytesOf, coordAt, idsAt, noUnitig, noVertex, plainShow, refusal, shown}
+use Rattle.store.specs.Show.{coordFrom, noPlace, setBy, showStep, shownBy, vertexCoord, vertexSet}
+use Rattle.store.specs.State.{Bufs, CellBufs, SharedBufs}
+use Rattle.store.specs.declared.state.Cell.{Cell}
+use Rattle.store.specs.declared.state.Shared.{Shared}
 use Rattle.store.specs.declared.state.Store.{Store}
 use Rattle.store.proofs.Laws.Flats.{flat-take, from-start}
-use Rattle.store.proofs.Laws.Rep.{Good, Rep, runsOfU, tableOf, unaltered}
-use Rattle.store.proofs.Laws.Same.{Promise, set-here}
+use Rattle.store.proofs.Laws.Rep.{CellRep, Good, NamedIn, Rep, SharedRep, unaltered, unitigRuns}
+use Rattle.store.proofs.Laws.Same.{set-here}
 use Rattle.store.proofs.Laws.Table.{count-at-table, start-at-table}
 use Rattle.store.proofs.Laws.Unitigs.{colour-of, name-of, read-of}
-use Rattle.base.specs.Answers as answer
-use Rattle.runs.specs.Bytes as bytes
 
-module _ (P : Promise) (p : Plain) (s : Store) (b : Bufs) (r : Rep p s b) where
-  table-at : (k : ℕ) → k < 2 * length (p .closed) → getD (b .table) k 0 ≡ getD (tableOf 0 (p .closed)) k 0
-  table-at k h = sym (getD-take (2 * length (p .closed)) (b .table) k 0 h) ∙ ap (λ (l : List ℕ). getD l k 0) (r .closed .places)
+-- a coordinate that names a record has 40 bits
+pub named-narrow : {N : ℕ} {p : PlainCell} {c : Cell} {b : CellBufs} → CellRep N p c b → (coord : ℕ) → NamedIn p coord → Narrow coord
+named-narrow {p = p} {b = b} r coord n =
+    let f = r .filed in
+    let z = r .indexSize in
+    let m : length (p .S) ≤ 4294967295 = omega arith in
+    omega (arith, n .low)
 
-  module _ (k : ℕ) (h : k < length (p .closed)) where
+-- ---- the runs filed for a unitig, and the coordinate of its vertex
+
+module _ {names : ℕ → Type 0} {us : List Unitig} {l : SharedLengths} {s : Shared} {b : SharedBufs} (narrow : (c : ℕ) → names c → Narrow c) (r : SharedRep names us l s b) where
+  table-at : (k : ℕ) → k < 2 * length us → getD (b .table) k 0 ≡ getD (tableOf 0 us) k 0
+  table-at k h = sym (getD-take (2 * length us) (b .table) k 0 h) ∙ ap (λ (t : List ℕ). getD t k 0) (r .closed .places)
+
+  module _ (k : ℕ) (h : k < length us) where
     abbrev here : Unitig
-    here = getD (p .closed) k noUnitig
+    here = getD us k noUnitig
 
-    good : Good (p .W) (length (p .S)) here
-    good = all-at (Good (p .W) (length (p .S))) (p .closed) k noUnitig h (r .closed .each)
+    pub good-here : Good names here
+    good-here = all-at (Good names) us k noUnitig h (r .closed .each)
 
-    start-is : getD (b .table) (2 * k) 0 ≡ length (flat bytesOf (take k (p .closed)))
+    start-is : getD (b .table) (2 * k) 0 ≡ length (flat bytesOf (take k us))
     start-is =
-        let g : 2 * k < 2 * length (p .closed) = omega arith in
-        table-at (2 * k) g ∙ start-at-table 0 (p .closed) k h ∙ zero-add _
+        let g : 2 * k < 2 * length us = omega arith in
+        table-at (2 * k) g ∙ start-at-table 0 us k h ∙ zero-add _
 
-    count-is : getD (b .table) (2 * k + 1) 0 ≡ length (here .coords)
+    pub count-is : getD (b .table) (2 * k + 1) 0 ≡ length (here .coords)
     count-is =
-        let g : suc (2 * k) < 2 * length (p .closed) = omega arith in
-        rw (add-one (2 * k)) (table-at (suc (2 * k)) g ∙ count-at-table 0 (p .closed) k h)
+        let g : suc (2 * k) < 2 * length us = omega arith in
+        rw (add-one (2 * k)) (table-at (suc (2 * k)) g ∙ count-at-table 0 us k h)
 
-    -- what is filed for it reads back
-    pub filed-are : filedRuns s b k ≡ bytes.found (runsOfU here) (flat bytesOf (drop (suc k) (p .closed)))
-    filed-are =
-        let z = r .sizes .index in
-        let f = r .filed in
-        let n : length (p .S) ≤ 4294967295 = omega arith in
-        let d = from-start bytesOf (p .closed) k noUnitig h in
-        let x = read-of here good (flat bytesOf (drop (suc k) (p .closed))) n in
+    pub runs-are : runsOf s b k ≡ found (unitigRuns here) (flat bytesOf (drop (suc k) us))
+    runs-are =
+        let d = from-start bytesOf us k noUnitig h in
+        let x = read-of narrow here good-here (flat bytesOf (drop (suc k) us)) in
         rw (start-is, r .closed .far, r .closed .bytes, d, x)
 
-    coord-is : (v : ℕ) → coordFrom s (b .runs) (getD (b .table) (2 * k) 0) (getD (b .table) (2 * k + 1) 0) v ≡ some (colourAt v (runsOfU here))
-    unfolding coordFrom coordIn _when_else_
-    coord-is v =
-        let t1 : ltb 16777215 (length (here .coords)) ≡ false = le-ltb _ _ (good .few) in
-        let low : getD (b .table) (2 * k) 0 ≤ s .used .runs = rw (start-is, r .closed .far) (flat-take bytesOf (p .closed) k) in
-        let t2 : ltb (s .used .runs) (getD (b .table) (2 * k) 0) ≡ false = le-ltb _ _ low in
-        rw (filed-are, count-is, t1, t2, good .isSharp)
+    pub coord-is : (v : ℕ) → v < length (here .coords) → vertexCoord s (b .runs) (b .table) k v ≡ some (getD (here .coords) v 0)
+    unfolding coordFrom sharpColour sharpColourIn _when_else_
+    coord-is v g =
+        let few : ltb mostVertices (length (here .coords)) ≡ false = le-ltb _ _ (good-here .few) in
+        let low : getD (b .table) (2 * k) 0 ≤ s .runs .used = rw (start-is, r .closed .far) (flat-take bytesOf us k) in
+        let inside : ltb (s .runs .used) (getD (b .table) (2 * k) 0) ≡ false = le-ltb _ _ low in
+        let there : leb (length (here .coords)) v ≡ false = lt-leb _ _ g in
+        rw (runs-are, count-is, few, inside, there, good-here .isSharp, colour-of here good-here v g)
 
-    set-is : (v : ℕ) → v < length (here .coords) → vertexSet s b k v ≡ some (idsAt p k v)
-    unfolding vertexSet startBy idsAt coordAt setAt
-    set-is v l =
-        let n = name-of here good v l in
-        rw (coord-is v, colour-of here good v l) (set-here P p s b r (getD (here .coords) v 0) (n .own) (n .low))
+-- ---- show
 
-  shown-is : (ids out : List ℕ) (k v : ℕ) → looked s b (shownBy (some ids) out) ≡ (leaves (look k v out) (_when_else_ (refused 3) (ltb (length out) (length ids)) (shown ids)), s, b)
-  unfolding shownBy leaves _when_else_
-  shown-is ids out k v = go (ltb (length out) (length ids))
-    where
-      go : (t : Bool) → looked s b (_when_else_ (answer.refused 3, out) t (done (length ids ∷ []), over ids out)) ≡ (leaves (look k v out) (_when_else_ (refused 3) t (shown ids)), s, b)
-      go true = refl
-      go false = refl
+abbrev seenOf : Answer × List ℕ → Seen
+seenOf r = seen (r .0) (r .1)
 
-  pub show-ok : (k v : ℕ) (out : List ℕ) → looked s b (showStep s b k v out) ≡ (leaves (look k v out) (plainShow p k v (length out)), s, b)
-  unfolding showStep plainShow noPlace noVertex _when_else_ leaves
+shown-is : (ids out : List ℕ) → seenOf (shownBy (some ids) out) ≡ asSeen (_when_else_ (refusal 3) (ltb (length out) (length ids)) (shown ids)) out
+unfolding shownBy asSeen _when_else_
+shown-is ids out = go (ltb (length out) (length ids))
+  where
+    go : (t : Bool) → seenOf (_when_else_ (refused 3, out) t (done (length ids ∷ []), over ids out)) ≡ asSeen (_when_else_ (refusal 3) t (shown ids)) out
+    go true = refl
+    go false = refl
+
+module _ {p : Plain} {s : Store} {b : Bufs} (r : Rep p s b) where
+  set-is : (k v : ℕ) → k < length (p .closed) → v < length (getD (p .closed) k noUnitig .coords) → vertexSet s b k v ≡ some (idsAt p k v)
+  unfolding vertexSet setBy idsAt coordAt
+  set-is k v h l =
+      let q = named-narrow (r .cell) in
+      let n = name-of (getD (p .closed) k noUnitig) (good-here q (r .shared) k h) v l in
+      rw (r .colors, coord-is q (r .shared) k h v l) (set-here (r .limits) (r .cell) (getD (getD (p .closed) k noUnitig .coords) v 0) n)
+
+  pub show-ok : (k v : ℕ) (out : List ℕ) → seenOf (showStep s b k v out) ≡ asSeen (plainShow p k v (length out)) out
+  unfolding showStep plainShow noPlace noVertex _when_else_ asSeen
   show-ok k v out =
-      let m : leb (s .used .unitigs) k ≡ leb (length (p .closed)) k = ap (λ (n : ℕ). leb n k) (r .closed .many) in
-      rw (unaltered p s b r, m) (by-unitig (leb (length (p .closed)) k) refl)
+      let m : leb (s .shared .unitigs) k ≡ leb (length (p .closed)) k = ap (λ (n : ℕ). leb n k) (r .shared .closed .many) in
+      rw (unaltered r, m) (by-unitig (leb (length (p .closed)) k) refl)
     where
-      by-vertex : (k < length (p .closed)) → (t : Bool) → leb (length (getD (p .closed) k noUnitig .coords)) v ≡ t → looked s b (_when_else_ (answer.refused 14, out) t (shownBy (vertexSet s b k v) out)) ≡ (leaves (look k v out) (_when_else_ (refused 14) t (_when_else_ (refused 3) (ltb (length out) (length (idsAt p k v))) (shown (idsAt p k v)))), s, b)
+      by-vertex : (k < length (p .closed)) → (t : Bool) → leb (length (getD (p .closed) k noUnitig .coords)) v ≡ t
+          → seenOf (_when_else_ (refused 14, out) t (shownBy (vertexSet s b k v) out)) ≡ asSeen (_when_else_ (refusal 14) t (_when_else_ (refusal 3) (ltb (length out) (length (idsAt p k v))) (shown (idsAt p k v)))) out
       by-vertex h true e = refl
       by-vertex h false e =
           let l : v < length (getD (p .closed) k noUnitig .coords) = leb-false _ _ e in
-          rw (set-is k h v l) (shown-is (idsAt p k v) out k v)
+          rw (set-is k v h l) (shown-is (idsAt p k v) out)
 
-      by-unitig : (t : Bool) → leb (length (p .closed)) k ≡ t → looked s b (_when_else_ (answer.refused 14, out) (t || leb (getD (b .table) (2 * k + 1) 0) v) (shownBy (vertexSet s b k v) out)) ≡ (leaves (look k v out) (_when_else_ (refused 14) (t || leb (length (getD (p .closed) k noUnitig .coords)) v) (_when_else_ (refused 3) (ltb (length out) (length (idsAt p k v))) (shown (idsAt p k v)))), s, b)
+      by-unitig : (t : Bool) → leb (length (p .closed)) k ≡ t
+          → seenOf (_when_else_ (refused 14, out) (t || leb (getD (b .shared .table) (2 * k + 1) 0) v) (shownBy (vertexSet s b k v) out)) ≡ asSeen (_when_else_ (refusal 14) (t || leb (length (getD (p .closed) k noUnitig .coords)) v) (_when_else_ (refusal 3) (ltb (length out) (length (idsAt p k v))) (shown (idsAt p k v)))) out
       by-unitig true e = refl
       by-unitig false e =
           let h : k < length (p .closed) = leb-false _ _ e in
-          rw (count-is k h) (by-vertex h (leb (length (getD (p .closed) k noUnitig .coords)) v) refl)
+          rw (count-is (named-narrow (r .cell)) (r .shared) k h) (by-vertex h (leb (length (getD (p .closed) k noUnitig .coords)) v) refl)

@@ -7,13 +7,16 @@ use native.Mathlib.Nat.{zero-add, add-zero}
 use native.Mathlib.Numerals.{add-one}
 use lib.ListN.{length, getD, take, set, length-append, length-set}
 use lib.Seq.{take-suc-set}
-use Rattle.base.proofs.All.{all-append}
+use Rattle.base.proofs.All.{all-append, all-less}
 use Rattle.codec.specs.Flat.{flat}
-use Rattle.store.specs.Plain.{Unitig, bytesOf, closedBytes, noUnitig}
-use Rattle.store.specs.State.{put}
+use Rattle.store.specs.Demand.{tableOf}
+use Rattle.store.specs.Plain.{SharedLengths, Unitig, bytesOf, closedBytes, noUnitig}
+use Rattle.store.specs.State.{SharedBufs, put}
+use Rattle.store.specs.declared.state.Shared.{Shared}
 use Rattle.store.proofs.Laws.Flats.{flat-more}
 use Rattle.store.proofs.Laws.Puts.{put-length, put-take}
-use Rattle.store.proofs.Laws.Rep.{Closed, Good, tableOf}
+use Rattle.store.proofs.Laws.Rep.{Closed, Good, SharedRep}
+use Rattle.store.proofs.Laws.Unitigs.{good-more}
 
 table-more : (at : ℕ) (us : List Unitig) (v : Unitig) → tableOf at (us ++ (v ∷ [])) ≡ tableOf at us ++ ((at + length (closedBytes us)) ∷ length (v .coords) ∷ [])
 unfolding tableOf flat
@@ -30,14 +33,14 @@ two-more l k a n h =
     rw (add-one k, take-suc-set (set l k a) (suc k) n y, take-suc-set l k a x)
     (append-assoc (take k l) (a ∷ []) (n ∷ []))
 
-module _ {W sets : ℕ} {us : List Unitig} {used unitigs : ℕ} {file table : List ℕ} (c : Closed W sets us used unitigs file table) (v : Unitig) (ok : Good W sets v) (room : length (closedBytes us) + length (bytesOf v) ≤ length file) (pair : 2 * length us + 2 ≤ length table) where
+module _ {names : ℕ → Type 0} {us : List Unitig} {used unitigs : ℕ} {file table : List ℕ} (c : Closed names us used unitigs file table) (v : Unitig) (ok : Good names v) (room : length (closedBytes us) + length (bytesOf v) ≤ length file) (pair : 2 * length us + 2 ≤ length table) where
   long-bytes : length (closedBytes (us ++ (v ∷ []))) ≡ length (closedBytes us) + length (bytesOf v)
   long-bytes = ap length (flat-more bytesOf us v) ∙ length-append (closedBytes us) (bytesOf v)
 
   long-us : length (us ++ (v ∷ [])) ≡ length us + 1
   long-us = length-append us (v ∷ [])
 
-  pub closed-one : Closed W sets (us ++ (v ∷ [])) (used + length (bytesOf v)) (unitigs + 1) (put used (bytesOf v) file) (set (set table (2 * unitigs) used) (2 * unitigs + 1) (length (v .coords)))
+  pub closed-one : Closed names (us ++ (v ∷ [])) (used + length (bytesOf v)) (unitigs + 1) (put used (bytesOf v) file) (set (set table (2 * unitigs) used) (2 * unitigs + 1) (length (v .coords)))
   closed-one =
       let u : used ≡ length (closedBytes us) = c .far in
       let m : unitigs ≡ length us = c .many in
@@ -53,8 +56,24 @@ module _ {W sets : ℕ} {us : List Unitig} {used unitigs : ℕ} {file table : Li
         places =
             rw (long-us, tw, m, two-more table (2 * length us) used (length (v .coords)) pair, u, c .places)
             (sym (table-more 0 us v ∙ ap (λ (n : ℕ). tableOf 0 us ++ (n ∷ length (v .coords) ∷ [])) (zero-add (length (closedBytes us)))));
-        each = all-append (Good W sets) us (v ∷ []) (c .each) (ok, tt);
+        each = all-append (Good names) us (v ∷ []) (c .each) (ok, tt);
       }
+
+-- what is named stays named
+pub closed-more : {P Q : ℕ → Type 0} {us : List Unitig} {used unitigs : ℕ} {file table : List ℕ} → ((c : ℕ) → P c → Q c) → Closed P us used unitigs file table → Closed Q us used unitigs file table
+closed-more {P} {Q} {us} h c =
+    record {
+      far = c .far;
+      many = c .many;
+      room = c .room;
+      pairs = c .pairs;
+      bytes = c .bytes;
+      places = c .places;
+      each = all-less {P = Good P} {Q = Good Q} (λ u g. good-more h g) us (c .each);
+    }
+
+pub shared-more : {P Q : ℕ → Type 0} {us : List Unitig} {l : SharedLengths} {s : Shared} {b : SharedBufs} → ((c : ℕ) → P c → Q c) → SharedRep P us l s b → SharedRep Q us l s b
+shared-more h r = record { runSize = r .runSize; tableSize = r .tableSize; closed = closed-more h (r .closed) }
 
 -- the table's two numbers of unitig k
 two-suc : (k : ℕ) → 2 * suc k ≡ suc (suc (2 * k))

@@ -2,82 +2,72 @@
 use Prim.Native.Nat.{ℕ}
 use mathlib.Core.Path.{_≡_, refl, ap}
 use mathlib.Core.List.{List, [], _∷_, map}
-use mathlib.Core.Option.{Option, none, some}
-use Rattle.base.specs.Answers.{done}
-use Rattle.store.specs.Add.{addFiled, addPut, addStep, addTest}
-use Rattle.store.specs.Close.{closeFiledOf, closePut, closeStep, closeTest}
-use Rattle.store.specs.Demand.{Lent, Seen, codeDeed, codeRun, codeStep, heard, leaves, leavesAll, look, say, seen, sent}
-use Rattle.store.specs.Gate.{byGate, gateThen}
-use Rattle.store.specs.Join.{joinPut, joinStep, joinTest}
-use Rattle.store.specs.Plain.{Deed, Plain, Reply, Unitig, accepted, add, close, closeEffect, effect, gate, join, plainDeed, plainRun, plainStep, tests}
+use Rattle.base.specs.Answers.{Answer, done}
+use Rattle.base.specs.Tests.{_when_else_}
+use Rattle.store.specs.Add.{addCell, addStep, addTest, afterAdd}
+use Rattle.store.specs.Close.{afterClose, closeCell, closeStep, closeTest}
+use Rattle.store.specs.Demand.{LentCall, Seen, allSeen, asSeen, outOf, seen, sent, showing, storeRun, storeStep, storeUpdate, updated, updating, wayOf}
+use Rattle.store.specs.Join.{afterJoin, joinCell, joinStep, joinTest}
+use Rattle.store.specs.Numbered.{byGate, numbered}
+use Rattle.store.specs.Plain.{Plain, Reply, Update, Verdict, accept, accepted, add, close, effect, join, plainRun, plainStep, plainUpdate, refuse, repeat, tests, verdict}
 use Rattle.store.specs.State.{Bufs, Outcome}
-use Rattle.store.specs.declared.gate.Gate.{Gate}
-use Rattle.store.specs.declared.gate.Gate.the-variants.{Again, Go, Refuse}
+use Rattle.store.specs.declared.numbered.Gate.{Gate}
 use Rattle.store.specs.declared.state.Store.{Store}
-use Rattle.store.specs.declared.state.Way.{Way}
-use Rattle.store.proofs.Laws.Adds.{add-tests, gate-go}
-use Rattle.store.proofs.Laws.Closes.{close-tests}
-use Rattle.store.proofs.Laws.Joins.{join-tests}
-use Rattle.store.proofs.Laws.Rep.{Rep}
-use Rattle.store.proofs.Laws.Same.{Promise, gates-agree}
+use Rattle.store.proofs.Laws.Adds.{add-answer, add-kept, add-tests}
+use Rattle.store.proofs.Laws.Closes.{close-answer, close-kept, close-tests}
+use Rattle.store.proofs.Laws.Gates.{asVerdict, by-verdict, byVerdict, verdict-accept}
+use Rattle.store.proofs.Laws.Joins.{join-answer, join-kept, join-tests}
+use Rattle.store.proofs.Laws.Rep.{Rep, unaltered}
+use Rattle.store.proofs.Laws.Same.{sameUpdate, verdicts-agree}
 use Rattle.store.proofs.Laws.Shows.{show-ok}
-use Rattle.store.proofs.Laws.Adds as adds
-use Rattle.store.proofs.Laws.Closes as closes
-use Rattle.store.proofs.Laws.Joins as joins
 
 -- what one call gives on the two sides belongs together
-pub record Okay (c : Lent) (x : Seen × Store × Bufs) (y : Reply × Plain) : Type 0 where
-  pub same : x .0 ≡ leaves c (y .0)
+pub record Okay (c : LentCall) (x : Seen × Store × Bufs) (y : Reply × Plain) : Type 0 where
+  pub same : x .0 ≡ asSeen (y .0) (outOf c)
   pub rep : Rep (y .1) (x .1) (x .2)
 
-module _ (P : Promise) (p : Plain) (s : Store) (b : Bufs) (r : Rep p s b) where
-  -- a numbered call, by what its gate says
-  by-gate : (i : ℕ) (d : Deed) (go : Outcome) (g : Gate)
-      → (g ≡ Go → (go .0 ≡ done (effect p d .0 ∷ [])) × Rep (accepted p i d (effect p d)) (go .1) (go .2))
-      → Okay (say i d) (heard (byGate g s b go)) (plainDeed g p i d)
-  unfolding byGate plainDeed leaves
-  by-gate i d go (Refuse n) k = record { same = refl; rep = r }
-  by-gate i d go (Again a) k = record { same = refl; rep = r }
-  by-gate i d go Go k = record { same = ap (λ a. seen a []) (k refl .0); rep = k refl .1 }
+-- what an accepted call leaves
+abbrev Kept : Plain → ℕ → Update → Outcome → Type 0
+Kept p i u o = (o .0 ≡ done (effect p u .0 ∷ [])) × Rep (accepted p i u (effect p u)) (o .1) (o .2)
 
-  by-tests : (i : ℕ) (d : Deed) (go : Outcome) (rest : Gate) → rest ≡ tests p d
-      → (tests p d ≡ Go → (go .0 ≡ done (effect p d .0 ∷ [])) × Rep (accepted p i d (effect p d)) (go .1) (go .2))
-      → Okay (say i d) (heard (byGate (gateThen s b i d rest) s b go)) (plainDeed (gate p i d) p i d)
-  by-tests i d go rest e k =
-      rw (gates-agree P p s b r i d rest e) (by-gate i d go (gate p i d) (λ g. k (gate-go p i d g .1)))
+module _ {p : Plain} {s : Store} {b : Bufs} (r : Rep p s b) where
+  -- a numbered call, by what is found of it; `into` puts what a cell's call hands back into the store
+  by-found : {R : Type 0} (i : ℕ) (u : Update) (told : Answer → R) (go : R) (into : R → Outcome) → ((a : Answer) → into (told a) ≡ (a, s, b)) → (v : Verdict) → (v ≡ accept → Kept p i u (into go))
+      → Okay (updating i u) (updated (into (byVerdict v told go))) (plainUpdate v p i u)
+  unfolding byVerdict plainUpdate asSeen outOf
+  by-found i u told go into t (refuse n) k = rw (t _) (record { same = refl; rep = r })
+  by-found i u told go into t (repeat a) k = rw (t _) (record { same = refl; rep = r })
+  by-found i u told go into t accept k = record { same = ap (λ (a : Answer). seen a []) (k refl .0); rep = k refl .1 }
 
-  add-answer : (i : ℕ) (ids : List ℕ) → addPut s b i ids .0 ≡ done (effect p (add ids) .0 ∷ [])
-  unfolding addFiled effect
-  add-answer i ids = rw (r .worker, r .filed .many)
+  by-tests : {R : Type 0} (i : ℕ) (u : Update) (g : Gate) (told : Answer → R) (go : R) (into : R → Outcome) → ((a : Answer) → into (told a) ≡ (a, s, b)) → asVerdict g ≡ tests p u → (tests p u ≡ accept → Kept p i u (into go))
+      → Okay (updating i u) (updated (into (byGate (numbered (s .cell) i (sameUpdate (s .colors) (s .cell) (b .cell) u) g) told go))) (plainUpdate (verdict p i u) p i u)
+  by-tests i u g told go into t e k =
+      rw (by-verdict (numbered (s .cell) i (sameUpdate (s .colors) (s .cell) (b .cell) u) g) told go, verdicts-agree r i u g e)
+      (by-found i u told go into t (verdict p i u) (λ f. k (verdict-accept p i u f .1)))
 
-  close-answer : (i : ℕ) (way : Way) → closePut s b i way .0 ≡ done (effect p (close way) .0 ∷ [])
-  unfolding closeFiledOf effect closeEffect
-  close-answer i way = go (p .current)
-    where
-      go : (c : Option Unitig) → done (s .used .unitigs ∷ []) ≡ done (closeEffect p way c .0 ∷ [])
-      go none = ap (λ (a : ℕ). done (a ∷ [])) (r .closed .many)
-      go (some u) = ap (λ (a : ℕ). done (a ∷ [])) (r .closed .many)
+  update-ok : (i : ℕ) (u : Update) → Okay (updating i u) (updated (storeUpdate s b i u)) (plainUpdate (verdict p i u) p i u)
+  unfolding storeUpdate addStep joinStep closeStep addCell joinCell closeCell _when_else_
+  update-ok i (add ids) = rw (unaltered r) (by-tests i (add ids) (addTest (s .colors) (s .cell) ids) _ _ (afterAdd s b) (λ a. refl) (add-tests r ids) (λ e. (add-answer r i ids, add-kept r i ids e)))
+  update-ok i (join n reversed piece) =
+      rw (unaltered r)
+      (by-tests i (join n reversed piece) (joinTest (s .cell) (b .cell .opened) n reversed piece) _ _ (afterJoin s b) (λ a. refl) (join-tests r n reversed piece) (λ e. (join-answer r i n reversed piece e, join-kept r i n reversed piece e)))
+  update-ok i (close way) =
+      rw (unaltered r)
+      (by-tests i (close way) (closeTest (s .cell) (s .shared) (b .cell .opened) (wayOf way)) _ _ (afterClose s b) (λ a. refl) (close-tests r way) (λ e. (close-answer r i way, close-kept r i way e)))
 
-  deed-ok : (i : ℕ) (d : Deed) → Okay (say i d) (heard (codeDeed s b i d)) (plainDeed (gate p i d) p i d)
-  unfolding codeDeed addStep joinStep closeStep
-  deed-ok i (add ids) = by-tests i (add ids) (addPut s b i ids) (addTest s ids) (add-tests p s b r ids) (λ e. (add-answer i ids, adds.grown p s b r i ids e))
-  deed-ok i (join n back runs) = by-tests i (join n back runs) (joinPut s b i n back runs) (joinTest s (b .opened) n back runs) (join-tests p s b r n back runs) (λ e. (joins.answered p s b r n back runs i e, joins.grown p s b r n back runs i e))
-  deed-ok i (close way) = by-tests i (close way) (closePut s b i way) (closeTest s (b .opened) way) (close-tests p s b r way) (λ e. (close-answer i way, closes.grown p s b r way i e))
+  pub step-ok : (c : LentCall) → Okay c (storeStep s b c) (plainStep p (sent c))
+  unfolding storeStep plainStep sent outOf
+  step-ok (updating i u) = update-ok i u
+  step-ok (showing unitig vertex out) = record { same = show-ok r unitig vertex out; rep = r }
 
-  pub step-ok : (c : Lent) → Okay c (codeStep s b c) (plainStep p (sent c))
-  unfolding codeStep plainStep sent
-  step-ok (say i d) = deed-ok i d
-  step-ok (look k v out) = rw (show-ok P p s b r k v out) (record { same = refl; rep = r })
-
-pub record Ran (cs : List Lent) (x : List Seen × Store × Bufs) (y : List Reply × Plain) : Type 0 where
-  pub answers : x .0 ≡ leavesAll cs (y .0)
+pub record Ran (cs : List LentCall) (x : List Seen × Store × Bufs) (y : List Reply × Plain) : Type 0 where
+  pub answers : x .0 ≡ allSeen cs (y .0)
   pub rep : Rep (y .1) (x .1) (x .2)
 
-module _ (P : Promise) where
-  pub run-ok : (p : Plain) (s : Store) (b : Bufs) → Rep p s b → (cs : List Lent) → Ran cs (codeRun s b cs) (plainRun p (map sent cs))
-  unfolding codeRun plainRun leavesAll
-  run-ok p s b r [] = record { answers = refl; rep = r }
-  run-ok p s b r (c ∷ cs) =
-      let k = step-ok P p s b r c in
-      let t = run-ok (plainStep p (sent c) .1) (codeStep s b c .1) (codeStep s b c .2) (k .rep) cs in
-      record { answers = rw (k .same, t .answers); rep = t .rep }
+pub run-ok : {p : Plain} {s : Store} {b : Bufs} → Rep p s b → (cs : List LentCall) → Ran cs (storeRun s b cs) (plainRun p (map sent cs))
+unfolding storeRun plainRun allSeen
+run-ok r [] = record { answers = refl; rep = r }
+run-ok r (c ∷ cs) =
+    let k = step-ok r c in
+    let t = run-ok (k .rep) cs in
+    record { answers = rw (k .same, t .answers); rep = t .rep }

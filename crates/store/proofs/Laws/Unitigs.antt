@@ -15,7 +15,7 @@ use Rattle.runs.specs.Bytes.{found, readRuns}
 use Rattle.runs.specs.Colours.{colourAt, colours, firstCoord, lastCoord, next, starts}
 use Rattle.runs.specs.Orders.{climbs, sharp}
 use Rattle.runs.specs.Reverse.{oriented, reverseRuns}
-use Rattle.runs.specs.Rotate.{merged, runsAt, turn}
+use Rattle.runs.specs.Rotate.{merged, runsAt, turnLeft}
 use Rattle.runs.specs.Words.{coordinate, offset}
 use Rattle.runs.proofs.Laws.Bytes.{read-back}
 use Rattle.runs.proofs.Laws.Claims.{colour-of-vertex, first-colour, joined-sharp, last-colour, reversed-colours, reversed-sharp, sharp-told}
@@ -27,77 +27,86 @@ use Rattle.runs.proofs.Laws.Merge.{colours-merged, merged-sharp, starts-merged}
 use Rattle.runs.proofs.Laws.Orders.{end-le, sharp-steady, sharp-yes, steady-sharp, strict-few, yes-sharp}
 use Rattle.runs.proofs.Laws.Starts.{starts-joined, starts-reversed}
 use Rattle.runs.proofs.Laws.Widths.{Narrow, coloured-words}
-use Rattle.store.specs.Plain.{Unitig, bytesOf, expanded, filed, joined, later, parts, pieceOf, turnedRound}
-use Rattle.store.specs.Tests.{named}
-use Rattle.store.specs.declared.state.Way.the-variants.{Cycle}
-use Rattle.store.proofs.Laws.Rep.{Good, Named, runsOfU}
+use Rattle.store.specs.Join.{allNamed}
+use Rattle.store.specs.Plain.{Unitig, bytesOf, cycle, differs, expanded, filed, innerStarts, joined, pieceOf, turnedRound}
+use Rattle.store.proofs.Laws.Rep.{Good, Named, unitigRuns}
 
 -- ---- what its runs say of a unitig
 
-pub runs-long : (u : Unitig) → length (runsOfU u) ≡ length (u .starts)
+pub runs-long : (u : Unitig) → length (unitigRuns u) ≡ length (u .starts)
 unfolding runsAt
 runs-long u = length-map (u .starts) _
 
-module _ {W k : ℕ} (u : Unitig) (g : Good W k u) where
+module _ {names : ℕ → Type 0} (u : Unitig) (g : Good names u) where
   abbrev n : ℕ
   n = length (u .coords)
 
   -- the first and the last colour, and the colour of a vertex
-  pub first-of : firstCoord (runsOfU u) ≡ getD (u .coords) 0 0
-  first-of = first-colour n (runsOfU u) (g .isSharp) ∙ ap (λ (l : List ℕ). getD l 0 0) (g .tell)
+  pub first-of : firstCoord (unitigRuns u) ≡ getD (u .coords) 0 0
+  first-of = first-colour n (unitigRuns u) (g .isSharp) ∙ ap (λ (l : List ℕ). getD l 0 0) (g .tell)
 
-  pub last-of : lastCoord (runsOfU u) ≡ getD (u .coords) (n - 1) 0
-  last-of = last-colour n (runsOfU u) (g .isSharp) ∙ ap (λ (l : List ℕ). getD l (n - 1) 0) (g .tell)
+  pub last-of : lastCoord (unitigRuns u) ≡ getD (u .coords) (n - 1) 0
+  last-of = last-colour n (unitigRuns u) (g .isSharp) ∙ ap (λ (l : List ℕ). getD l (n - 1) 0) (g .tell)
 
-  pub colour-of : (v : ℕ) → v < n → colourAt v (runsOfU u) ≡ getD (u .coords) v 0
-  colour-of v h = colour-of-vertex n (runsOfU u) v (steady-sharp n (runsOfU u) (g .isSharp)) (sharp-yes n (runsOfU u) (g .isSharp) .some) h ∙ ap (λ (l : List ℕ). getD l v 0) (g .tell)
+  pub colour-of : (v : ℕ) → v < n → colourAt v (unitigRuns u) ≡ getD (u .coords) v 0
+  colour-of v h = colour-of-vertex n (unitigRuns u) v (steady-sharp n (unitigRuns u) (g .isSharp)) (sharp-yes n (unitigRuns u) (g .isSharp) .some) h ∙ ap (λ (l : List ℕ). getD l v 0) (g .tell)
 
-  pub name-of : (v : ℕ) → v < n → Named W k (getD (u .coords) v 0)
-  name-of v h = all-at (Named W k) (u .coords) v 0 h (g .names)
+  pub name-of : (v : ℕ) → v < n → names (getD (u .coords) v 0)
+  name-of v h = all-at names (u .coords) v 0 h (g .named)
 
-  -- run bytes read back
-  pub read-of : (rest : List ℕ) → k ≤ 4294967295 → readRuns (bytesOf u ++ rest) ≡ found (runsOfU u) rest
-  unfolding bytesOf
-  read-of rest h = read-back (runsOfU u) rest (omega (arith, strict-few n (runsOfU u) (sharp-yes n (runsOfU u) (g .isSharp) .up), g .few)) (coloured-words n (runsOfU u) (g .isSharp) (rw (g .tell) narrow))
-    where
-      slim : (c : ℕ) → Named W k c → Narrow c
-      slim c a = omega (arith, a .low)
+-- run bytes read back, where no coordinate is wider than 40 bits
+pub read-of : {names : ℕ → Type 0} → ((c : ℕ) → names c → Narrow c) → (u : Unitig) → Good names u → (rest : List ℕ) → readRuns (bytesOf u ++ rest) ≡ found (unitigRuns u) rest
+unfolding bytesOf
+read-of {names} slim u g rest =
+    let n : ℕ = length (u .coords) in
+    let narrow : All Narrow (u .coords) = all-less {P = names} {Q = Narrow} slim (u .coords) (g .named) in
+    let few : length (unitigRuns u) ≤ n = omega (arith, strict-few n (unitigRuns u) (sharp-yes n (unitigRuns u) (g .isSharp) .up)) in
+    read-back (unitigRuns u) rest (omega (arith, g .few)) (coloured-words n (unitigRuns u) (g .isSharp) (rw (g .tell) narrow))
 
-      narrow : All Narrow (u .coords)
-      narrow = all-less {P = Named W k} {Q = Narrow} slim (u .coords) (g .names)
+-- what is named stays named
+pub good-more : {P Q : ℕ → Type 0} {u : Unitig} → ((c : ℕ) → P c → Q c) → Good P u → Good Q u
+good-more {P} {Q} {u} h g =
+    record {
+      vertices = g .vertices;
+      few = g .few;
+      isSharp = g .isSharp;
+      tell = g .tell;
+      offsets = g .offsets;
+      named = all-less {P = P} {Q = Q} h (u .coords) (g .named);
+    }
 
 -- ---- the starts but 0
 
-later-up : (n at : ℕ) (ws : List ℕ) → climbs n at ws ≡ true → later (starts ws) ≡ starts ws
-unfolding climbs later
-later-up n at [] e = refl
-later-up n at (w ∷ ws) e = let a = and-true _ _ e in go (offset w) (ltb-true at (offset w) (a .0)) (later-up n (offset w) ws (a .1))
+inner-up : (n at : ℕ) (ws : List ℕ) → climbs n at ws ≡ true → innerStarts (starts ws) ≡ starts ws
+unfolding climbs innerStarts
+inner-up n at [] e = refl
+inner-up n at (w ∷ ws) e = let a = and-true _ _ e in go (offset w) (ltb-true at (offset w) (a .0)) (inner-up n (offset w) ws (a .1))
   where
-    go : (x : ℕ) → at < x → later (starts ws) ≡ starts ws → later (x ∷ starts ws) ≡ x ∷ starts ws
+    go : (x : ℕ) → at < x → innerStarts (starts ws) ≡ starts ws → innerStarts (x ∷ starts ws) ≡ x ∷ starts ws
     go zero h r = absurd (omega arith)
     go (suc x) h r = ap (λ (l : List ℕ). suc x ∷ l) r
 
-later-sharp : (n : ℕ) (ws : List ℕ) → sharp n ws ≡ true → later (starts ws) ≡ drop 1 (starts ws)
-unfolding sharp later
-later-sharp n [] e = refl
-later-sharp n (w ∷ ws) e = let a = and-true _ _ e in ap (λ (x : ℕ). later (x ∷ starts ws)) (eqb-true (offset w) 0 (a .0)) ∙ later-up n 0 ws (a .1)
+inner-sharp : (n : ℕ) (ws : List ℕ) → sharp n ws ≡ true → innerStarts (starts ws) ≡ drop 1 (starts ws)
+unfolding sharp innerStarts
+inner-sharp n [] e = refl
+inner-sharp n (w ∷ ws) e = let a = and-true _ _ e in ap (λ (x : ℕ). innerStarts (x ∷ starts ws)) (eqb-true (offset w) 0 (a .0)) ∙ inner-up n 0 ws (a .1)
 
-pub later-good : {W k : ℕ} (u : Unitig) → Good W k u → later (u .starts) ≡ drop 1 (u .starts)
-later-good u g = ap later (sym (g .offsets)) ∙ later-sharp (length (u .coords)) (runsOfU u) (g .isSharp) ∙ ap (λ (l : List ℕ). drop 1 l) (g .offsets)
+pub inner-good : {names : ℕ → Type 0} (u : Unitig) → Good names u → innerStarts (u .starts) ≡ drop 1 (u .starts)
+inner-good u g = ap innerStarts (sym (g .offsets)) ∙ inner-sharp (length (u .coords)) (unitigRuns u) (g .isSharp) ∙ ap (λ (l : List ℕ). drop 1 l) (g .offsets)
 
 -- ---- a sharp list whose coordinates name sets tells a unitig
 
 abbrev unitig : List ℕ → List ℕ → Unitig
 unitig x y = record { coords = x; starts = y }
 
-pub record Told (W k n : ℕ) (runs : List ℕ) (u : Unitig) : Type 0 where
-  pub good : Good W k u
-  pub runs-are : runsOfU u ≡ runs
+pub record Told (names : ℕ → Type 0) (n : ℕ) (runs : List ℕ) (u : Unitig) : Type 0 where
+  pub good : Good names u
+  pub runs-are : unitigRuns u ≡ runs
   pub long : length (u .coords) ≡ n
 
-told : (W k n : ℕ) (runs : List ℕ) → n ≤ 16777215 → sharp n runs ≡ true → All (Named W k) (colours n runs) → Told W k n runs (expanded n runs)
+told : (names : ℕ → Type 0) (n : ℕ) (runs : List ℕ) → n ≤ 16777215 → sharp n runs ≡ true → All names (colours n runs) → Told names n runs (expanded n runs)
 unfolding expanded
-told W k n runs few e names =
+told names n runs few e named =
     let s = sharp-yes n runs e in
     let t = sharp-steady n runs s in
     let l : length (colours n runs) ≡ n = steady-long n runs t (s .some) in
@@ -110,14 +119,14 @@ told W k n runs few e names =
             isSharp = rw (l, q) e;
             tell = rw (l, q);
             offsets = ap (λ (ws : List ℕ). starts ws) q;
-            names = names;
+            named = named;
           };
       runs-are = q;
       long = l;
     }
 
-named-colours : (W k n : ℕ) (ws : List ℕ) → named W k ws ≡ true → All (Named W k) (colours n ws)
-unfolding named colours
+named-colours : (W k n : ℕ) (ws : List ℕ) → allNamed W k ws ≡ true → All (Named W k) (colours n ws)
+unfolding allNamed colours
 named-colours W k n [] e = tt
 named-colours W k n (w ∷ ws) e =
     let a = and-true _ _ e in
@@ -131,15 +140,15 @@ round : (n : ℕ) (runs : List ℕ) → n ≤ 16777215 → sharp n runs ≡ true
 unfolding turnedRound expanded
 round n runs few e =
     ap₂ (λ (x y : List ℕ). unitig x y) (sym (reversed-colours n runs few (steady-sharp n runs e)))
-    (ap (λ (l : List ℕ). 0 ∷ reverse (map (λ (s : ℕ). n - s) l)) (later-sharp n runs e) ∙ sym (starts-reversed n runs few (sharp-yes n runs e .some)))
+    (ap (λ (l : List ℕ). 0 ∷ reverse (map (λ (s : ℕ). n - s) l)) (inner-sharp n runs e) ∙ sym (starts-reversed n runs few (sharp-yes n runs e .some)))
 
 -- expanded, and turned round where wished, it is told by the oriented runs
-pub piece-told : (W k n : ℕ) (back : Bool) (runs : List ℕ) → n ≤ 16777215 → sharp n runs ≡ true → named W k runs ≡ true → Told W k n (oriented back n runs) (pieceOf n back runs)
+pub piece-told : (W k n : ℕ) (back : Bool) (runs : List ℕ) → n ≤ 16777215 → sharp n runs ≡ true → allNamed W k runs ≡ true → Told (Named W k) n (oriented back n runs) (pieceOf n back runs)
 unfolding pieceOf
 piece-told W k n true runs few e m =
     rw (round n runs few e)
-    (told W k n (reverseRuns n runs) few (reversed-sharp n runs few e) (rw (reversed-colours n runs few (steady-sharp n runs e)) (all-reverse (Named W k) (colours n runs) (named-colours W k n runs m))))
-piece-told W k n false runs few e m = told W k n runs few e (named-colours W k n runs m)
+    (told (Named W k) n (reverseRuns n runs) few (reversed-sharp n runs few e) (rw (reversed-colours n runs few (steady-sharp n runs e)) (all-reverse (Named W k) (colours n runs) (named-colours W k n runs m))))
+piece-told W k n false runs few e m = told (Named W k) n runs few e (named-colours W k n runs m)
 
 -- ---- a join
 
@@ -155,52 +164,52 @@ seam xs (y ∷ ys) h g e =
     sym (append-snoc (take (length xs - 1) xs) y ys)
     ∙ ap (λ (z : List ℕ). z ++ ys) (ap (λ (z : ℕ). take (length xs - 1) xs ++ (z ∷ [])) (sym e) ∙ sym (take-suc xs (length xs - 1) 0 k) ∙ ap (λ (j : ℕ). take j xs) l ∙ take-length xs)
 
-module _ (W k : ℕ) (u v : Unitig) (g : Good W k u) (h : Good W k v) (e : parts (some u) v ≡ false) (few : length (u .coords) + length (v .coords) - 1 ≤ 16777215) where
+module _ {names : ℕ → Type 0} (u v : Unitig) (g : Good names u) (h : Good names v) (e : differs (some u) v ≡ false) (few : length (u .coords) + length (v .coords) - 1 ≤ 16777215) where
   abbrev both : List ℕ
-  both = runsOfU u ++ appendix (lastCoord (runsOfU u)) (length (u .coords)) (runsOfU v)
+  both = unitigRuns u ++ appendix (lastCoord (unitigRuns u)) (length (u .coords)) (unitigRuns v)
 
   ends : getD (u .coords) (length (u .coords) - 1) 0 ≡ getD (v .coords) 0 0
-  unfolding parts
+  unfolding differs
   ends = eqb-true _ _ (not-false _ e)
 
-  meet : lastCoord (runsOfU u) ≡ firstCoord (runsOfU v)
+  meet : lastCoord (unitigRuns u) ≡ firstCoord (unitigRuns v)
   meet = last-of u g ∙ ends ∙ sym (first-of v h)
 
   both-sharp : sharp (length (u .coords) + length (v .coords) - 1) both ≡ true
   unfolding appendRuns
-  both-sharp = joined-sharp (runsOfU u) (length (u .coords)) (runsOfU v) (length (v .coords)) false (g .isSharp) (h .isSharp) few (h .few) meet
+  both-sharp = joined-sharp (unitigRuns u) (length (u .coords)) (unitigRuns v) (length (v .coords)) false (g .isSharp) (h .isSharp) few (h .few) meet
 
   both-colours : colours (length (u .coords) + length (v .coords) - 1) both ≡ u .coords ++ drop 1 (v .coords)
   both-colours =
-      let s = sharp-yes (length (u .coords)) (runsOfU u) (g .isSharp) in
-      let t = sharp-yes (length (v .coords)) (runsOfU v) (h .isSharp) in
-      colours-joined (length (u .coords)) (length (v .coords)) (runsOfU u) (runsOfU v) (sharp-steady _ _ s) (s .some) (last-below (length (u .coords)) (runsOfU u) (s .some) (s .up)) (sharp-steady _ _ t) (t .some) (omega arith)
+      let s = sharp-yes (length (u .coords)) (unitigRuns u) (g .isSharp) in
+      let t = sharp-yes (length (v .coords)) (unitigRuns v) (h .isSharp) in
+      colours-joined (length (u .coords)) (length (v .coords)) (unitigRuns u) (unitigRuns v) (sharp-steady _ _ s) (s .some) (last-below (length (u .coords)) (unitigRuns u) (s .some) (s .up)) (sharp-steady _ _ t) (t .some) (omega arith)
       ∙ ap₂ (λ (x y : List ℕ). take (length (u .coords) - 1) x ++ y) (g .tell) (h .tell)
       ∙ seam (u .coords) (v .coords) (g .vertices) (h .vertices) ends
 
-  both-starts : starts both ≡ u .starts ++ map (λ (s : ℕ). s + (length (u .coords) - 1)) (later (v .starts))
+  both-starts : starts both ≡ u .starts ++ map (λ (s : ℕ). s + (length (u .coords) - 1)) (innerStarts (v .starts))
   both-starts =
-      let t = sharp-yes (length (v .coords)) (runsOfU v) (h .isSharp) in
-      starts-joined (runsOfU u) (length (u .coords)) (runsOfU v) (length (v .coords)) (sharp-steady _ _ t) (omega arith) meet
-      ∙ ap₂ (λ (x y : List ℕ). x ++ map (λ (s : ℕ). s + (length (u .coords) - 1)) y) (g .offsets) (ap (λ (l : List ℕ). drop 1 l) (h .offsets) ∙ sym (later-good v h))
+      let t = sharp-yes (length (v .coords)) (unitigRuns v) (h .isSharp) in
+      starts-joined (unitigRuns u) (length (u .coords)) (unitigRuns v) (length (v .coords)) (sharp-steady _ _ t) (omega arith) meet
+      ∙ ap₂ (λ (x y : List ℕ). x ++ map (λ (s : ℕ). s + (length (u .coords) - 1)) y) (g .offsets) (ap (λ (l : List ℕ). drop 1 l) (h .offsets) ∙ sym (inner-good v h))
 
   joined-is : joined (some u) v ≡ expanded (length (u .coords) + length (v .coords) - 1) both
   unfolding joined expanded
   joined-is = ap₂ (λ (x y : List ℕ). unitig x y) (sym both-colours) (sym both-starts)
 
   -- a piece that meets the open unitig: append's runs tell the joined one
-  pub join-told : Told W k (length (u .coords) + length (v .coords) - 1) both (joined (some u) v)
+  pub join-told : Told names (length (u .coords) + length (v .coords) - 1) both (joined (some u) v)
   join-told =
       rw joined-is
-      (told W k (length (u .coords) + length (v .coords) - 1) both few both-sharp
-      (rw both-colours (all-append (Named W k) (u .coords) (drop 1 (v .coords)) (g .names) (all-drop (Named W k) 1 (v .coords) (h .names)))))
+      (told names (length (u .coords) + length (v .coords) - 1) both few both-sharp
+      (rw both-colours (all-append names (u .coords) (drop 1 (v .coords)) (g .named) (all-drop names 1 (v .coords) (h .named)))))
 
 -- ---- a cycle
 
-pub turn-good : {W k : ℕ} (pivot : ℕ) (u : Unitig) → Good W k u → Good W k (filed (Cycle pivot) u) × (length (filed (Cycle pivot) u .coords) ≡ length (u .coords))
+pub turn-good : {names : ℕ → Type 0} (pivot : ℕ) (u : Unitig) → Good names u → Good names (filed (cycle pivot) u) × (length (filed (cycle pivot) u .coords) ≡ length (u .coords))
 unfolding filed merged
-turn-good {W} {k} pivot u g =
-    let cs : List ℕ = turn (pivot % length (u .coords)) (u .coords) in
+turn-good {names} pivot u g =
+    let cs : List ℕ = turnLeft (pivot % length (u .coords)) (u .coords) in
     let l : length cs ≡ length (u .coords) = turn-long (pivot % length (u .coords)) (u .coords) in
     let some : 0 < length cs = omega (arith, g .vertices) in
     let small : length cs < 16777216 = omega (arith, g .few) in (
@@ -210,7 +219,7 @@ turn-good {W} {k} pivot u g =
         isSharp = yes-sharp (length cs) (merged cs) (merged-sharp cs some small);
         tell = colours-merged cs small;
         offsets = starts-merged cs small;
-        names = all-turn (Named W k) (pivot % length (u .coords)) (u .coords) (g .names);
+        named = all-turn names (pivot % length (u .coords)) (u .coords) (g .named);
       },
       l,
     )

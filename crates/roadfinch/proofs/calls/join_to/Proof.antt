@@ -5,11 +5,11 @@ use borrow.Author.Needs.{needs}
 use Rattle.roadfinch.proofs.calls.join_to.Statement.{statement}
 use Rattle.roadfinch.proofs.calls.join_to.Tie as tie
 
-least-requires : tie.Need-least-requires
-least-requires c κs = search needs
+at-most-requires : tie.Need-at-most-requires
+at-most-requires c κs = search needs
 
-least-requires-2 : tie.Need-least-requires-2
-least-requires-2 c κs = search needs
+at-most-requires-2 : tie.Need-at-most-requires-2
+at-most-requires-2 c κs = search needs
 
 part-requires : tie.Need-part-requires
 part-requires c κs = search needs
@@ -51,8 +51,8 @@ pub join-to-spec : {M : Type 1} → statement M
 join-to-spec =
     tie.close
     (tie.spec
-    least-requires
-    least-requires-2
+    at-most-requires
+    at-most-requires-2
     part-requires
     front-runs-requires
     slice-relend-prefix-join

@@ -5,8 +5,8 @@ use borrow.Author.Needs.{needs}
 use Rattle.roadfinch.proofs.calls.show_of.Statement.{statement}
 use Rattle.roadfinch.proofs.calls.show_of.Tie as tie
 
-least-requires : tie.Need-least-requires
-least-requires c κs = search needs
+at-most-requires : tie.Need-at-most-requires
+at-most-requires c κs = search needs
 
 slice-relend-prefix-show : tie.Need-slice-relend-prefix-show
 slice-relend-prefix-show c = search needs
@@ -45,7 +45,7 @@ pub show-of-spec : {M : Type 1} → statement M
 show-of-spec =
     tie.close
     (tie.spec
-    least-requires
+    at-most-requires
     slice-relend-prefix-show
     slice-aggregate-show
     part-requires

@@ -17,8 +17,8 @@ returns c = search needs
 entry-requires : tie.Need-entry-requires
 entry-requires c κs = search needs
 
-least-requires : tie.Need-least-requires
-least-requires c κs = search needs
+at-most-requires : tie.Need-at-most-requires
+at-most-requires c κs = search needs
 
 number-requires : tie.Need-number-requires
 number-requires c κs = search needs
@@ -82,7 +82,7 @@ start-with-spec =
     wrong-requires
     returns
     entry-requires
-    least-requires
+    at-most-requires
     number-requires
     number-requires-2
     entry-requires-2

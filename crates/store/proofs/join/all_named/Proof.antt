@@ -3,13 +3,13 @@ use mathlib.Core.Path.{_≡_, refl}
 use native.Mathlib.Omega.{arith}
 use lib.ListN.{length, drop}
 use borrow.Author.Needs.{needs}
-use Rattle.store.specs.Tests.{named}
+use Rattle.store.specs.Join.{allNamed}
 use Rattle.store.proofs.Laws.Joining.{name-other, name-far, name-next, name-end}
 use Rattle.store.proofs.join.all_named.Statement.{statement}
 use Rattle.store.proofs.join.all_named.Tie as tie
 
 abbrev Inv-loop : tie.InvT-loop
-Inv-loop worker sets piece i₀ i = (i ≤ length piece) × (named worker sets piece ≡ named worker sets (drop i piece))
+Inv-loop worker sets piece i₀ i = (i ≤ length piece) × (allNamed worker sets piece ≡ allNamed worker sets (drop i piece))
 
 abbrev μ-loop : tie.MeasureT-loop
 μ-loop worker sets piece i₀ i = length piece - i

@@ -9,8 +9,8 @@ enum-known-got c = search needs
 enum-known-got-2 : tie.Need-enum-known-got-2
 enum-known-got-2 c = search needs
 
-space-or-requires : tie.Need-space-or-requires
-space-or-requires c κs = search needs
+damage-or-requires : tie.Need-damage-or-requires
+damage-or-requires c κs = search needs
 
 returns : tie.Need-returns
 returns c = search (read-given)
@@ -20,4 +20,4 @@ returns-2 c = search (read-refused)
 
 pub read-answer-spec : {M : Type 1} → statement M
 read-answer-spec =
-    tie.close (tie.spec enum-known-got enum-known-got-2 space-or-requires returns returns-2)
+    tie.close (tie.spec enum-known-got enum-known-got-2 damage-or-requires returns returns-2)

@@ -1,25 +1,22 @@
 use borrow.Author.Needs.{needs}
 use Rattle.store.specs.Add.{addStep}
-use Rattle.store.proofs.Laws.Tested.{step-refused, step-again}
-use Rattle.store.proofs.Laws.Adding.{added-step, add-ready}
+use Rattle.store.proofs.Laws.Tested.{said-unaltered, whens}
+use Rattle.store.proofs.Laws.Calls.{added}
 use Rattle.store.proofs.state.Store.add.Statement.{statement}
 use Rattle.store.proofs.state.Store.add.Tie as tie
 
-add-gate-requires : tie.Need-add-gate-requires
-add-gate-requires c κs = search needs
+altered-requires : tie.Need-altered-requires
+altered-requires c κs = search needs
 
-enum-known-r : tie.Need-enum-known-r
-enum-known-r c = search needs
-
-enum-known-a : tie.Need-enum-known-a
-enum-known-a c = search needs
-
-enum-told : tie.Need-enum-told
-enum-told c = search needs
-
-file-set-requires : tie.Need-file-set-requires
+returns : tie.Need-returns
 unfolding addStep
-file-set-requires c κs = add-ready _ _ _ _ _ (c .before .before .before .before .add-gate .ensures) (c .before .before .enum-told .given .1)
+returns c = search whens
+
+add-requires : tie.Need-add-requires
+add-requires c κs = said-unaltered _ _ _ (c .before .before .before .before .altered .ensures) (c .before .before .before .if1 .left) .add
+
+with-cell-requires : tie.Need-with-cell-requires
+with-cell-requires c κs = search needs
 
 same-length : tie.Need-same-length
 same-length c = search needs
@@ -27,45 +24,17 @@ same-length c = search needs
 same-length-2 : tie.Need-same-length-2
 same-length-2 c = search needs
 
-returns : tie.Need-returns
-unfolding addStep
-returns c = search (step-refused, step-again, added-step)
-
-same-length-3 : tie.Need-same-length-3
-same-length-3 c = search needs
-
-same-length-4 : tie.Need-same-length-4
-same-length-4 c = search needs
-
 returns-2 : tie.Need-returns-2
-unfolding addStep
-returns-2 c = search (step-refused, step-again, added-step)
-
-same-length-5 : tie.Need-same-length-5
-same-length-5 c = search needs
-
-same-length-6 : tie.Need-same-length-6
-same-length-6 c = search needs
-
-returns-3 : tie.Need-returns-3
-unfolding addStep
-returns-3 c = search (step-refused, step-again, added-step)
+returns-2 c = search (added)
 
 pub add-spec : {M : Type 1} → statement M
 add-spec =
     tie.close
     (tie.spec
-    add-gate-requires
-    enum-known-r
-    enum-known-a
-    enum-told
-    file-set-requires
+    altered-requires
+    returns
+    add-requires
+    with-cell-requires
     same-length
     same-length-2
-    returns
-    same-length-3
-    same-length-4
-    returns-2
-    same-length-5
-    same-length-6
-    returns-3)
+    returns-2)

@@ -1,49 +1,31 @@
 use borrow.Author.Needs.{needs}
-use Rattle.store.proofs.Laws.Tested.{alters}
+use Rattle.store.specs.Altered.{altered}
+use Rattle.base.proofs.Tests.{anys}
 use Rattle.store.proofs.state.Store.altered.Statement.{statement}
 use Rattle.store.proofs.state.Store.altered.Tie as tie
 
-resized-requires : tie.Need-resized-requires
-resized-requires c κs = search needs
+bad-colors-requires : tie.Need-bad-colors-requires
+bad-colors-requires c κs = search needs
 
 returns : tie.Need-returns
-returns c = search alters
+unfolding altered
+returns c = search anys
 
-overused-requires : tie.Need-overused-requires
-overused-requires c κs = search needs
+altered-requires : tie.Need-altered-requires
+altered-requires c κs = search needs
 
 returns-2 : tie.Need-returns-2
-returns-2 c = search alters
+unfolding altered
+returns-2 c = search anys
 
-bad-limits-requires : tie.Need-bad-limits-requires
-bad-limits-requires c κs = search needs
+altered-requires-2 : tie.Need-altered-requires-2
+altered-requires-2 c κs = search needs
 
 returns-3 : tie.Need-returns-3
-returns-3 c = search alters
-
-bad-lengths-requires : tie.Need-bad-lengths-requires
-bad-lengths-requires c κs = search needs
-
-returns-4 : tie.Need-returns-4
-returns-4 c = search alters
-
-bad-current-requires : tie.Need-bad-current-requires
-bad-current-requires c κs = search needs
-
-returns-5 : tie.Need-returns-5
-returns-5 c = search alters
+unfolding altered
+returns-3 c = search anys
 
 pub altered-spec : {M : Type 1} → statement M
 altered-spec =
     tie.close
-    (tie.spec
-    resized-requires
-    returns
-    overused-requires
-    returns-2
-    bad-limits-requires
-    returns-3
-    bad-lengths-requires
-    returns-4
-    bad-current-requires
-    returns-5)
+    (tie.spec bad-colors-requires returns altered-requires returns-2 altered-requires-2 returns-3)

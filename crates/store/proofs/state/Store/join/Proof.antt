@@ -1,25 +1,22 @@
 use borrow.Author.Needs.{needs}
 use Rattle.store.specs.Join.{joinStep}
-use Rattle.store.proofs.Laws.Tested.{step-refused, step-again}
-use Rattle.store.proofs.Laws.Joining.{joined-step, join-ready}
+use Rattle.store.proofs.Laws.Calls.{joined}
+use Rattle.store.proofs.Laws.Tested.{said-unaltered, whens}
 use Rattle.store.proofs.state.Store.join.Statement.{statement}
 use Rattle.store.proofs.state.Store.join.Tie as tie
 
-join-gate-requires : tie.Need-join-gate-requires
-join-gate-requires c κs = search needs
+altered-requires : tie.Need-altered-requires
+altered-requires c κs = search needs
 
-enum-known-r : tie.Need-enum-known-r
-enum-known-r c = search needs
-
-enum-known-a : tie.Need-enum-known-a
-enum-known-a c = search needs
-
-enum-told : tie.Need-enum-told
-enum-told c = search needs
-
-join-piece-requires : tie.Need-join-piece-requires
+returns : tie.Need-returns
 unfolding joinStep
-join-piece-requires c κs = join-ready _ _ _ _ _ _ _ (c .before .before .before .before .join-gate .ensures) (c .before .before .enum-told .given .1)
+returns c = search whens
+
+join-requires : tie.Need-join-requires
+join-requires c κs = let o = said-unaltered _ _ _ (c .before .before .before .before .altered .ensures) (c .before .before .before .if1 .left) in o .join
+
+with-cell-requires : tie.Need-with-cell-requires
+with-cell-requires c κs = search needs
 
 same-length : tie.Need-same-length
 same-length c = search needs
@@ -27,45 +24,17 @@ same-length c = search needs
 same-length-2 : tie.Need-same-length-2
 same-length-2 c = search needs
 
-returns : tie.Need-returns
-unfolding joinStep
-returns c = search (step-refused, step-again, joined-step)
-
-same-length-3 : tie.Need-same-length-3
-same-length-3 c = search needs
-
-same-length-4 : tie.Need-same-length-4
-same-length-4 c = search needs
-
 returns-2 : tie.Need-returns-2
-unfolding joinStep
-returns-2 c = search (step-refused, step-again, joined-step)
-
-same-length-5 : tie.Need-same-length-5
-same-length-5 c = search needs
-
-same-length-6 : tie.Need-same-length-6
-same-length-6 c = search needs
-
-returns-3 : tie.Need-returns-3
-unfolding joinStep
-returns-3 c = search (step-refused, step-again, joined-step)
+returns-2 c = search (joined)
 
 pub join-spec : {M : Type 1} → statement M
 join-spec =
     tie.close
     (tie.spec
-    join-gate-requires
-    enum-known-r
-    enum-known-a
-    enum-told
-    join-piece-requires
+    altered-requires
+    returns
+    join-requires
+    with-cell-requires
     same-length
     same-length-2
-    returns
-    same-length-3
-    same-length-4
-    returns-2
-    same-length-5
-    same-length-6
-    returns-3)
+    returns-2)

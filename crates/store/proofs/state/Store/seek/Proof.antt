@@ -9,8 +9,11 @@ no-place-requires c κs = search needs
 returns : tie.Need-returns
 returns c = search seeks
 
-vertex-record-requires : tie.Need-vertex-record-requires
-vertex-record-requires c κs = search (place-counted, needs)
+vertex-color-requires : tie.Need-vertex-color-requires
+vertex-color-requires c κs = search (place-counted, needs)
+
+colored-start-requires : tie.Need-colored-start-requires
+colored-start-requires c κs = search needs
 
 enum-known-at : tie.Need-enum-known-at
 enum-known-at c = search needs
@@ -30,7 +33,8 @@ seek-spec =
     (tie.spec
     no-place-requires
     returns
-    vertex-record-requires
+    vertex-color-requires
+    colored-start-requires
     enum-known-at
     enum-told
     returns-2

@@ -1,7 +1,7 @@
-use native.Mathlib.Omega.{arith}
 use borrow.Author.Needs.{needs}
+use native.Mathlib.Omega.{arith}
 use Rattle.store.proofs.Laws.Showing.{shows-cases, record-in}
-use Rattle.store.proofs.Laws.Tested.{unaltered-sound}
+use Rattle.store.proofs.Laws.Tested.{said-unaltered}
 use Rattle.store.proofs.state.Store.show.Statement.{statement}
 use Rattle.store.proofs.state.Store.show.Tie as tie
 
@@ -12,7 +12,7 @@ returns : tie.Need-returns
 returns c = search shows-cases
 
 seek-requires : tie.Need-seek-requires
-seek-requires c κs = let o = unaltered-sound _ _ _ (c .before .altered .ensures) (c .if1 .left) in (omega (arith, o .index), o .runs, o .table)
+seek-requires c κs = let o = said-unaltered _ _ _ (c .before .altered .ensures) (c .if1 .left) in (omega (arith, o .add .index .inside), o .close .runs .inside, o .close .table .inside)
 
 enum-known-r : tie.Need-enum-known-r
 enum-known-r c = search needs
@@ -21,7 +21,7 @@ enum-known-at : tie.Need-enum-known-at
 enum-known-at c = search needs
 
 give-requires : tie.Need-give-requires
-give-requires c κs = let o = unaltered-sound _ _ _ (c .before .before .before .before .before .before .altered .ensures) (c .before .before .before .before .before .if1 .left) in (record-in _ _ _ _ _ _ _ _ (c .before .before .before .before .seek .ensures) (c .before .before .at .given .1), o .records, o .colors)
+give-requires c κs = let o = said-unaltered _ _ _ (c .before .before .before .before .before .before .before .altered .ensures) (c .before .before .before .before .before .before .if1 .left) in (record-in _ _ _ _ _ _ _ _ (c .before .before .before .before .before .seek .ensures) (c .before .before .before .at .given .1), o .add .records .inside, o .add .colors)
 
 returns-2 : tie.Need-returns-2
 returns-2 c = search shows-cases

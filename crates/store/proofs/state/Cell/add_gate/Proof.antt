@@ -1,0 +1,49 @@
+use borrow.Author.Needs.{needs}
+use Rattle.store.proofs.Laws.Tested.{by-sequence}
+use Rattle.store.proofs.state.Cell.add_gate.Statement.{statement}
+use Rattle.store.proofs.state.Cell.add_gate.Tie as tie
+
+sequence-requires : tie.Need-sequence-requires
+sequence-requires c κs = search needs
+
+enum-told : tie.Need-enum-told
+enum-told c = search needs
+
+enum-told-2 : tie.Need-enum-told-2
+enum-told-2 c = search needs
+
+is-last-add-requires : tie.Need-is-last-add-requires
+is-last-add-requires c κs = search needs
+
+repeated-requires : tie.Need-repeated-requires
+repeated-requires c κs = search needs
+
+enum-told-3 : tie.Need-enum-told-3
+enum-told-3 c = search needs
+
+add-test-requires : tie.Need-add-test-requires
+add-test-requires c κs = search needs
+
+returns : tie.Need-returns
+returns c = search by-sequence
+
+returns-2 : tie.Need-returns-2
+returns-2 c = search by-sequence
+
+returns-3 : tie.Need-returns-3
+returns-3 c = search by-sequence
+
+pub add-gate-spec : {M : Type 1} → statement M
+add-gate-spec =
+    tie.close
+    (tie.spec
+    sequence-requires
+    enum-told
+    enum-told-2
+    is-last-add-requires
+    repeated-requires
+    enum-told-3
+    add-test-requires
+    returns
+    returns-2
+    returns-3)
