@@ -1,0 +1,63 @@
+-- `worked::lines` is safe and ends.
+use mathlib.Core.Path.{_≡_, refl}
+use native.Mathlib.Omega.{arith}
+use borrow.Author.Needs.{needs}
+use Rattle.worked.proofs.lines.Statement.{statement}
+use Rattle.worked.proofs.lines.Tie as tie
+
+abbrev Inv-loop : tie.InvT-loop
+Inv-loop text ids₀ piece₀ space₀ out₀ records₀ index₀ opened₀ held₀ runs₀ table₀ turn₀ at₀ turns₀ ids piece space out records index opened held runs table turn at turns = turns ≡ turns
+
+abbrev μ-loop : tie.MeasureT-loop
+μ-loop text ids₀ piece₀ space₀ out₀ records₀ index₀ opened₀ held₀ runs₀ table₀ turn₀ at₀ turns₀ ids piece space out records index opened held runs table turn at turns = turns
+
+beginning-requires : tie.Need-beginning-requires Inv-loop μ-loop
+beginning-requires c κs = search needs
+
+loop-holds : tie.Need-loop-holds Inv-loop μ-loop
+loop-holds c = refl
+
+returns : tie.Need-returns Inv-loop μ-loop
+returns c = search needs
+
+sub-turns : tie.Need-sub-turns Inv-loop μ-loop
+sub-turns c = search needs
+
+span-requires : tie.Need-span-requires Inv-loop μ-loop
+span-requires c κs = search needs
+
+part-requires : tie.Need-part-requires Inv-loop μ-loop
+part-requires c κs = search needs
+
+line-requires : tie.Need-line-requires Inv-loop μ-loop
+line-requires c κs = search needs
+
+wrapping-add-usize-requires : tie.Need-wrapping-add-usize-requires Inv-loop μ-loop
+wrapping-add-usize-requires c κs = search needs
+
+loop-less : tie.Need-loop-less Inv-loop μ-loop
+loop-less c = omega (arith, c .before .before .before .before .before .before .before .before .before .before .before .before .before .before .before .loop-test .taken)
+
+loop-again : tie.Need-loop-again Inv-loop μ-loop
+loop-again c = refl
+
+returns-2 : tie.Need-returns-2 Inv-loop μ-loop
+returns-2 c = search needs
+
+pub lines-spec : {M : Type 1} → statement M
+lines-spec =
+    tie.close
+    (tie.spec
+    Inv-loop
+    μ-loop
+    beginning-requires
+    loop-holds
+    returns
+    sub-turns
+    span-requires
+    part-requires
+    line-requires
+    wrapping-add-usize-requires
+    loop-less
+    loop-again
+    returns-2)
