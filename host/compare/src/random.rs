@@ -89,7 +89,7 @@ impl Random {
     }
 
     /// 0, then up to `most - 1` offsets below `limit`, which never descend.
-    fn offsets(&mut self, limit: u32, most: u32) -> Vec<u32> {
+    pub fn offsets(&mut self, limit: u32, most: u32) -> Vec<u32> {
         let more = self.below(u64::from(most.max(1)));
         let mut offsets: Vec<u32> = (0..more)
             .map(|_| self.below(u64::from(limit)) as u32)

@@ -1,15 +1,19 @@
-//! The specification of records and runs in plain Rust, written from its text and from neither the reference nor the
-//! proved code: the judge where the reference panics, accepts more, or has no answer at all.
+//! The specification in plain Rust, written from its text and from neither the reference nor the proved code: the judge where
+//! the reference panics, accepts more, or has no answer at all. The store, which the reference doesn't have, is here twice:
+//! [`plain`] over sets and vertices, [`store`] over its state and buffers; [`calls`] has what both are asked.
 //!
-//! Each operation answers what it writes, or why it refuses, in more detail than the refusal's number, so that a comparison
+//! Each operation on records and runs answers what it writes, or why it refuses, in more detail than the refusal's number, so that a comparison
 //! with the reference can tell one class of difference from another. The space lent stands apart, in [`put`]: 3 is the last
 //! refusal of every operation that has it, but for the two tests that come first, [`index_fits`] and [`Why::SaidRuns`].
 //! It is made to be read and not to be fast: sets are lists, streams are bits, a cycle is an array over its vertices.
 
 pub mod bits;
+pub mod calls;
+pub mod plain;
 pub mod records;
 pub mod runs;
 pub mod sets;
+pub mod store;
 
 pub use records::{index_fits, make_index, read_record, write_record};
 pub use runs::{append_runs, read_runs, reverse_runs, rotate_runs, write_runs};
