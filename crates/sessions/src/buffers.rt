@@ -27,4 +27,4 @@ pub type Bytes = [u8; 65536];
 pub type Words = [u64; 8192];
 
 // The answers that wait.
-pub type Chunk = [u8; 65536];
+pub type IoBuffer = [u8; 65536];

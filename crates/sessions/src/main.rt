@@ -7,9 +7,9 @@ mod say; // answers into the output buffer
 
 use crate::buffers::Bytes;
 use crate::buffers::Calls;
-use crate::buffers::Chunk;
 use crate::buffers::Head;
 use crate::buffers::Ids;
+use crate::buffers::IoBuffer;
 use crate::buffers::Text;
 use crate::buffers::Told;
 use crate::buffers::ToldWide;
@@ -33,7 +33,7 @@ pub struct Counts {
 }
 
 // As many places as asked for, or all.
-fn least(asked: u32, most: usize) -> usize
+fn at_most(asked: u32, most: usize) -> usize
     ensures { λ r. ⌜ r ≤ most ⌝ }
 {
     let a = asked as usize;
@@ -112,8 +112,8 @@ fn with_closed(
     answers: &mut ToldWide,
     shown: &mut Ids,
 ) -> u32 {
-    let a = least(head[6], runs.len());
-    let b = least(head[7], table.len());
+    let a = at_most(head[6], runs.len());
+    let b = at_most(head[7], table.len());
     code_of(replay::session(
         head[0],
         head[1],
@@ -148,8 +148,8 @@ fn with_open(
     answers: &mut ToldWide,
     shown: &mut Ids,
 ) -> u32 {
-    let a = least(head[4], opened.len());
-    let b = least(head[5], held.len());
+    let a = at_most(head[4], opened.len());
+    let b = at_most(head[5], held.len());
     with_closed(
         head,
         calls,
@@ -183,8 +183,8 @@ fn with_sets(
     answers: &mut ToldWide,
     shown: &mut Ids,
 ) -> u32 {
-    let a = least(head[2], records.len());
-    let b = least(head[3], index.len());
+    let a = at_most(head[2], records.len());
+    let b = at_most(head[3], index.len());
     with_open(
         head,
         calls,
@@ -251,7 +251,7 @@ fn print(
     answers: &ToldWide,
     shown: &Ids,
     at: usize,
-    out: &mut Chunk,
+    out: &mut IoBuffer,
 ) -> usize {
     let a = say::named(b"start ", code as u64, at, out);
     let b = say::calls(called / 6, refusals, answers, a, out);
@@ -278,7 +278,7 @@ fn run(
     ids: &Ids,
     pieces: &Wide,
     at: usize,
-    out: &mut Chunk,
+    out: &mut IoBuffer,
 ) -> usize {
     let mut records: Bytes = [165; 65536];
     let mut index: Words = [165; 8192];
@@ -330,7 +330,7 @@ fn run_all(
     calls: &mut Calls,
     ids: &mut Ids,
     pieces: &mut Wide,
-    out: &mut Chunk,
+    out: &mut IoBuffer,
 ) {
     let mut from: usize = 0;
     let mut at: usize = 0;
@@ -354,7 +354,7 @@ fn run_input(
     calls: &mut Calls,
     ids: &mut Ids,
     pieces: &mut Wide,
-    out: &mut Chunk,
+    out: &mut IoBuffer,
 ) {
     let n = io::read_full(0, text);
     run_all(fields::part(text, 0, n), head, calls, ids, pieces, out);

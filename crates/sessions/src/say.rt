@@ -1,5 +1,5 @@
 // Answers into the output buffer, which goes out when it fills. Each function takes the place where the buffer's text ends, and answers the new one.
-use crate::buffers::Chunk;
+use crate::buffers::IoBuffer;
 use crate::buffers::Told;
 use crate::buffers::ToldWide;
 use shell::fields;
@@ -7,14 +7,14 @@ use shell::lists;
 use shell::texts;
 
 // Writes out what waits.
-pub(crate) fn flush(at: usize, out: &Chunk) {
+pub(crate) fn flush(at: usize, out: &IoBuffer) {
     if !io::write_all(1, fields::part(out, 0, at)) {
         os::fail(b"standard output");
     }
 }
 
 // Space for a piece of text, which has at most 20 bytes.
-fn room(at: usize, out: &Chunk) -> usize {
+fn room(at: usize, out: &IoBuffer) -> usize {
     if at < 65000 {
         return at;
     }
@@ -22,23 +22,23 @@ fn room(at: usize, out: &Chunk) -> usize {
     0
 }
 
-pub(crate) fn text(t: &[u8], at: usize, out: &mut Chunk) -> usize {
+pub(crate) fn text(t: &[u8], at: usize, out: &mut IoBuffer) -> usize {
     let from = room(at, out);
     texts::put(t, from, out)
 }
 
-fn number(n: u64, at: usize, out: &mut Chunk) -> usize {
+fn number(n: u64, at: usize, out: &mut IoBuffer) -> usize {
     let from = room(at, out);
     texts::put_decimal(n, from, out)
 }
 
-fn byte(b: u8, at: usize, out: &mut Chunk) -> usize {
+fn byte(b: u8, at: usize, out: &mut IoBuffer) -> usize {
     let from = room(at, out);
     texts::put_byte(b, from, out)
 }
 
 // A name and a number.
-pub(crate) fn named(name: &[u8], n: u64, at: usize, out: &mut Chunk) -> usize {
+pub(crate) fn named(name: &[u8], n: u64, at: usize, out: &mut IoBuffer) -> usize {
     let a = text(name, at, out);
     number(n, a, out)
 }
@@ -81,7 +81,7 @@ fn words_end(xs: &[u64]) -> usize {
     0
 }
 
-fn each_byte(xs: &[u8], at: usize, out: &mut Chunk) -> usize {
+fn each_byte(xs: &[u8], at: usize, out: &mut IoBuffer) -> usize {
     let mut to = at;
     let mut i: usize = 0;
     while i < xs.len() {
@@ -91,7 +91,7 @@ fn each_byte(xs: &[u8], at: usize, out: &mut Chunk) -> usize {
     to
 }
 
-fn each_id(xs: &[u32], at: usize, out: &mut Chunk) -> usize {
+fn each_id(xs: &[u32], at: usize, out: &mut IoBuffer) -> usize {
     let mut to = at;
     let mut i: usize = 0;
     while i < xs.len() {
@@ -101,7 +101,7 @@ fn each_id(xs: &[u32], at: usize, out: &mut Chunk) -> usize {
     to
 }
 
-fn each_word(xs: &[u64], at: usize, out: &mut Chunk) -> usize {
+fn each_word(xs: &[u64], at: usize, out: &mut IoBuffer) -> usize {
     let mut to = at;
     let mut i: usize = 0;
     while i < xs.len() {
@@ -112,18 +112,18 @@ fn each_word(xs: &[u64], at: usize, out: &mut Chunk) -> usize {
 }
 
 // Two digits a byte.
-pub(crate) fn bytes(name: &[u8], xs: &[u8], at: usize, out: &mut Chunk) -> usize {
+pub(crate) fn bytes(name: &[u8], xs: &[u8], at: usize, out: &mut IoBuffer) -> usize {
     let a = text(name, at, out);
     each_byte(fields::part(xs, 0, bytes_end(xs)), a, out)
 }
 
 // A blank before each number.
-pub(crate) fn ids(name: &[u8], xs: &[u32], at: usize, out: &mut Chunk) -> usize {
+pub(crate) fn ids(name: &[u8], xs: &[u32], at: usize, out: &mut IoBuffer) -> usize {
     let a = text(name, at, out);
     each_id(lists::front(xs, ids_end(xs)), a, out)
 }
 
-pub(crate) fn words(name: &[u8], xs: &[u64], at: usize, out: &mut Chunk) -> usize {
+pub(crate) fn words(name: &[u8], xs: &[u64], at: usize, out: &mut IoBuffer) -> usize {
     let a = text(name, at, out);
     each_word(lists::front_runs(xs, words_end(xs)), a, out)
 }
@@ -134,7 +134,7 @@ pub(crate) fn calls(
     refusals: &Told,
     answers: &ToldWide,
     at: usize,
-    out: &mut Chunk,
+    out: &mut IoBuffer,
 ) -> usize {
     let mut to = at;
     let mut i: usize = 0;

@@ -23,9 +23,9 @@ use Rattle.store.specs.declared.state.Last.{Last}
 use Rattle.store.specs.declared.state.Last.the-variants as last
 use Rattle.store.specs.declared.state.Store.{Store}
 
-unfoldable pub isOpened : Current → Bool
-isOpened Nothing = false
-isOpened (Open n) = true
+unfoldable pub unitigOpen : Current → Bool
+unitigOpen Nothing = false
+unitigOpen (Open n) = true
 
 -- no ids, or not strictly ascending, or one not below N
 unfoldable pub badIds : ℕ → List ℕ → Bool
@@ -38,7 +38,7 @@ noSpace c len = ltb (c .records .length) (c .records .used + len) || ltb (c .ind
 unfoldable pub addTest : ℕ → Cell → List ℕ → Gate
 addTest N c ids =
     -- 12, a unitig is open
-    Refuse Opened when isOpened (c .current) else
+    Refuse Opened when unitigOpen (c .current) else
     -- 2, as above or no ids
     Refuse Ids when badIds N ids else
     -- 3, the record doesn't fit the rest of the file, or no index entry is free

@@ -19,7 +19,7 @@ ghost use lib.ListN.{length};
 ghost use Rattle.codec.specs.Records.{badColors};
 ghost use Rattle.store.specs.State.{bufs, ofAnswer};
 ghost use Rattle.store.specs.Numbered.{numbered};
-ghost use Rattle.store.specs.Add.{isOpened, noSpace, sameAdd, addTest, addFiled, addCell, addStep};
+ghost use Rattle.store.specs.Add.{unitigOpen, noSpace, sameAdd, addTest, addFiled, addCell, addStep};
 ghost use Rattle.store.specs.Inside.Fits.{AddFits, AddReady};
 
 impl Cell {
@@ -38,7 +38,7 @@ impl Cell {
     }
 
     fn is_open(self) -> bool
-        ensures { λ r. ⌜ r ≡ isOpened (self .current) ⌝ }
+        ensures { λ r. ⌜ r ≡ unitigOpen (self .current) ⌝ }
     {
         let current = self.current;
         match current {

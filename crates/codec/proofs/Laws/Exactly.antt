@@ -18,7 +18,7 @@ use Rattle.codec.specs.Sets.{Within}
 use Rattle.codec.specs.Records.{recordOf, ReadRecord, found, short, damaged, readRecord, badColors, readBy, readInto}
 use Rattle.codec.proofs.Laws.Records.{record-read, record-only}
 
--- the input begins with the record of a set, for whose ids the output has space, and these are what reading gives and leaves
+-- the input begins with the record of a set, for whose ids the output has space, and these are what reading gives and what the output then holds
 pub record Reads (N : ℕ) (input out : List ℕ) (answer : List ℕ) (after : List ℕ) : Type 0 where
   pub ids : List ℕ
   pub rest : List ℕ
@@ -26,7 +26,7 @@ pub record Reads (N : ℕ) (input out : List ℕ) (answer : List ℕ) (after : L
   pub begins : input ≡ recordOf N ids ++ rest
   pub space : length ids ≤ length out
   pub answers : answer ≡ length ids ∷ length (recordOf N ids) ∷ []
-  pub leaves : after ≡ over ids out
+  pub output : after ≡ over ids out
 
 in-limits : (N : ℕ) → 1 ≤ N → N ≤ 2 ^ 20 → badColors N ≡ false
 unfolding badColors
@@ -74,11 +74,11 @@ reads-exactly N some most input out answer after bytes = (there, back)
           begins = o .1;
           space = f .3;
           answers = f .4 ∙ ap (λ (k : ℕ). length (f .0) ∷ k ∷ []) (taken-is (recordOf N (f .0)) (f .1) input (o .1));
-          leaves = f .5;
+          output = f .5;
         }
 
     back : Reads N input out answer after → readInto N input out ≡ (done answer, after)
     back r =
         let read : readRecord N input ≡ found (r .ids) (r .rest) = ap (readRecord N) (r .begins) ∙ record-read N some most (r .ids) (r .rest) (r .set) in
         by ∙ ap (λ (q : ReadRecord). readBy q (length input) out) read ∙ reads-found (r .ids) (r .rest) out (length input) (r .space)
-        ∙ ap₂ (λ (a b : List ℕ). (done a, b)) (ap (λ (k : ℕ). length (r .ids) ∷ k ∷ []) (taken-is (recordOf N (r .ids)) (r .rest) input (r .begins)) ∙ sym (r .answers)) (sym (r .leaves))
+        ∙ ap₂ (λ (a b : List ℕ). (done a, b)) (ap (λ (k : ℕ). length (r .ids) ∷ k ∷ []) (taken-is (recordOf N (r .ids)) (r .rest) input (r .begins)) ∙ sym (r .answers)) (sym (r .output))

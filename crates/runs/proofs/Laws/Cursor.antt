@@ -266,7 +266,7 @@ rotate-few n pivot r ws t =
 -- what the functions that turn a list know of it, when they have counted its runs
 pub record Turned (n pivot p : ℕ) (r : Bool) (ws : List ℕ) (k : ℕ) : Type 0 where
   pub taken : Taken n ws
-  pub is : runsFromStep n p (oriented r n ws) 0 0 ≡ rotateRuns n pivot r ws
+  pub rotated : runsFromStep n p (oriented r n ws) 0 0 ≡ rotateRuns n pivot r ws
   pub count : k ≡ length (rotateRuns n pivot r ws)
   pub few : k < 16777216
 
@@ -274,4 +274,4 @@ pub turned-of : (n pivot p : ℕ) (r : Bool) (ws : List ℕ) (k : ℕ) → n ≤
 turned-of n pivot p r ws k small good l e c =
     let t : Taken n ws = taken n ws small good in
     let a : runsFromStep n p (oriented r n ws) 0 0 ≡ rotateRuns n pivot r ws = rotate-is n p pivot r ws t l e in
-    record { taken = t; is = a; count = c ∙ ap length a; few = omega (arith, c, ap length a, rotate-few n pivot r ws t) }
+    record { taken = t; rotated = a; count = c ∙ ap length a; few = omega (arith, c, ap length a, rotate-few n pivot r ws t) }

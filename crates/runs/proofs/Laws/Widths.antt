@@ -26,18 +26,18 @@ use Rattle.runs.proofs.Laws.Cursor.{turn-long}
 
 -- a word with this offset and coordinate
 pub record Packed (o c w : ℕ) : Type 0 where
-  pub is : w ≡ pack o c
+  pub word : w ≡ pack o c
   pub small : o < 16777216
   pub narrow : c < 1099511627776
 
 pub packed-offset : (o c w : ℕ) → Packed o c w → offset w ≡ o
-packed-offset o c w p = ap offset (p .is) ∙ offset-pack o c (p .small)
+packed-offset o c w p = ap offset (p .word) ∙ offset-pack o c (p .small)
 
 pub packed-coordinate : (o c w : ℕ) → Packed o c w → coordinate w ≡ c
-packed-coordinate o c w p = ap coordinate (p .is) ∙ coordinate-pack o c (p .small)
+packed-coordinate o c w p = ap coordinate (p .word) ∙ coordinate-pack o c (p .small)
 
 packed-word : (o c w : ℕ) → Packed o c w → w < 2 ^ 64
-packed-word o c w p = subst (λ (x : ℕ). x < 2 ^ 64) (sym (p .is)) (pack-small o c (p .small) (p .narrow))
+packed-word o c w p = subst (λ (x : ℕ). x < 2 ^ 64) (sym (p .word)) (pack-small o c (p .small) (p .narrow))
 
 narrow-at : (ws : List ℕ) (i : ℕ) → AreWords ws → coordinate (getD ws i 0) < 1099511627776
 narrow-at ws i a = coordinate-small (getD ws i 0) (a i)
@@ -52,7 +52,7 @@ words-of xs h i = go (decLt i (length xs))
 -- ---- reverse
 
 pub reversed-packed : (n : ℕ) (ws : List ℕ) (i k : ℕ) → n ≤ mostVertices → AreWords ws → i + k + 1 ≡ length ws → Packed (n - endAt n ws k) (coordinate (getD ws k 0)) (getD (reverseRuns n ws) i 0)
-reversed-packed n ws i k h a e = record { is = reversed-at n ws i k e; small = omega arith; narrow = narrow-at ws k a }
+reversed-packed n ws i k h a e = record { word = reversed-at n ws i k e; small = omega arith; narrow = narrow-at ws k a }
 
 pub reversed-words : (n : ℕ) (ws : List ℕ) → n ≤ mostVertices → AreWords ws → AreWords (reverseRuns n ws)
 reversed-words n ws h a =
@@ -65,7 +65,7 @@ oriented-words false n ws h a = a
 -- ---- append
 
 pub shifted-packed : (k : ℕ) (ws : List ℕ) (i : ℕ) → AreWords ws → i < length ws → offset (getD ws i 0) + k ≤ mostVertices → Packed (offset (getD ws i 0) + k) (coordinate (getD ws i 0)) (getD (shifted k ws) i 0)
-shifted-packed k ws i a l h = record { is = shifted-at k ws i l; small = omega arith; narrow = narrow-at ws i a }
+shifted-packed k ws i a l h = record { word = shifted-at k ws i l; small = omega arith; narrow = narrow-at ws i a }
 
 words-drop : (k : ℕ) (ws : List ℕ) → AreWords ws → AreWords (drop k ws)
 words-drop k ws a i = subst (λ (x : ℕ). x < 2 ^ 64) (sym (getD-drop k ws i 0)) (a (k + i))
@@ -128,7 +128,7 @@ coloured-words n ws e a = words-of ws word
         let b : next n (drop i ws) ≡ v = run-begins n ws i l in
         let c : getD (colours n ws) v 0 ≡ coordinate (getD ws i 0) = steady-at n ws t (s .some) i v l (omega arith) (s .up i l) in
         let h : v < length (colours n ws) = omega (arith, s .up i l, end-le n ws i (t .up), steady-long n ws t (s .some)) in
-        packed-word v (coordinate (getD ws i 0)) (getD ws i 0) (record { is = sym (pack-of (getD ws i 0)); small = omega arith; narrow = subst Narrow c (all-at Narrow (colours n ws) v 0 h a) })
+        packed-word v (coordinate (getD ws i 0)) (getD ws i 0) (record { word = sym (pack-of (getD ws i 0)); small = omega arith; narrow = subst Narrow c (all-at Narrow (colours n ws) v 0 h a) })
 
 -- a start is a vertex
 changes-below : (c at : ℕ) (cs : List ℕ) (i : ℕ) → i < length (changes c at cs) → getD (changes c at cs) i 0 < at + length cs
@@ -168,7 +168,7 @@ unfolding merged runsAt
 merged-packed cs i h a l =
     let m : i < length (firsts cs) = subst (λ (x : ℕ). i < x) (length-map (firsts cs) (λ (s : ℕ). pack s (getD cs s 0))) l in
     let b : getD (firsts cs) i 0 < length cs = firsts-below cs i m in
-    record { is = runs-at cs (firsts cs) i m; small = omega arith; narrow = all-at Narrow cs (getD (firsts cs) i 0) 0 b a }
+    record { word = runs-at cs (firsts cs) i m; small = omega arith; narrow = all-at Narrow cs (getD (firsts cs) i 0) 0 b a }
 
 -- run i of the turned list begins at the i-th of the turned colours' starts and has the colour there
 pub rotated-packed : (n pivot : ℕ) (r : Bool) (ws : List ℕ) (i : ℕ) → Taken n ws → AreWords ws → i < length (rotateRuns n pivot r ws)

@@ -4,17 +4,17 @@ use borrow.Author.Needs.{needs}
 use Rattle.sessions.proofs.with_sets.Statement.{statement}
 use Rattle.sessions.proofs.with_sets.Tie as tie
 
-element-copy-out-least : tie.Need-element-copy-out-least
-element-copy-out-least c = search needs
+element-copy-out-at-most : tie.Need-element-copy-out-at-most
+element-copy-out-at-most c = search needs
 
-least-requires : tie.Need-least-requires
-least-requires c κs = search needs
+at-most-requires : tie.Need-at-most-requires
+at-most-requires c κs = search needs
 
-element-copy-out-least-2 : tie.Need-element-copy-out-least-2
-element-copy-out-least-2 c = search needs
+element-copy-out-at-most-2 : tie.Need-element-copy-out-at-most-2
+element-copy-out-at-most-2 c = search needs
 
-least-requires-2 : tie.Need-least-requires-2
-least-requires-2 c κs = search needs
+at-most-requires-2 : tie.Need-at-most-requires-2
+at-most-requires-2 c κs = search needs
 
 slice-relend-prefix-with-open : tie.Need-slice-relend-prefix-with-open
 slice-relend-prefix-with-open c = search needs
@@ -44,10 +44,10 @@ pub with-sets-spec : {M : Type 1} → statement M
 with-sets-spec =
     tie.close
     (tie.spec
-    element-copy-out-least
-    least-requires
-    element-copy-out-least-2
-    least-requires-2
+    element-copy-out-at-most
+    at-most-requires
+    element-copy-out-at-most-2
+    at-most-requires-2
     slice-relend-prefix-with-open
     slice-aggregate-with-open
     slice-relend-prefix-with-open-2

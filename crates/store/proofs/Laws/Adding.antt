@@ -24,7 +24,7 @@ use Rattle.codec.specs.Records.{ReadRecord, badColors, givesIds, isRecord, reco
 use Rattle.codec.specs.Records as records
 use Rattle.codec.specs.Sets.{within}
 use Rattle.runs.specs.Words.{coordinateOf, placeOf, workerOf}
-use Rattle.store.specs.Add.{addFiled, addTest, badIds, isOpened, noSpace, sameAdd}
+use Rattle.store.specs.Add.{addFiled, addTest, badIds, unitigOpen, noSpace, sameAdd}
 use Rattle.store.specs.Filed.{readsAs, recordStart, setAt, setFrom, setIn, unnamed}
 use Rattle.store.specs.Inside.Counts.{writtenOf}
 use Rattle.store.specs.Inside.Fits.{AddFits, AddReady}
@@ -147,12 +147,12 @@ pub ruleset lasts = (last-add, last-fresh, last-join, last-close)
 
 -- ---- 12, 2, 3
 
-pub is-open : (k : Current) (n : ℕ) → k ≡ Open n → true ≡ isOpened k
-unfolding isOpened
+pub is-open : (k : Current) (n : ℕ) → k ≡ Open n → true ≡ unitigOpen k
+unfolding unitigOpen
 is-open k n e = rw e
 
-pub is-closed : (k : Current) → k ≡ Nothing → false ≡ isOpened k
-unfolding isOpened
+pub is-closed : (k : Current) → k ≡ Nothing → false ≡ unitigOpen k
+unfolding unitigOpen
 is-closed k e = rw e
 
 pub ruleset opens = (is-open, is-closed)
@@ -194,7 +194,7 @@ unmeasured : (w : Written) (r : Refusal) (N : ℕ) (ids : List ℕ) → badColor
 unfolding recordLength
 unmeasured w r N ids c e h = unmeasured-by (within 0 N ids) N (numberOf r) ids refl (ap (λ (x : Written). ofWritten x) (sym h) ∙ e ∙ when-no _ _ _ c)
 
-module _ (o : Bool) (N : ℕ) (c : Cell) (ids : List ℕ) (e : o ≡ isOpened (c .current)) where
+module _ (o : Bool) (N : ℕ) (c : Cell) (ids : List ℕ) (e : o ≡ unitigOpen (c .current)) where
   pub test-opened : o ≡ true → Refuse Opened ≡ addTest N c ids
   unfolding addTest _when_else_
   test-opened h = rw (via e h)

@@ -16,7 +16,7 @@ use Rattle.base.proofs.Bools.{or-none}
 use Rattle.codec.proofs.Promise.{IsSet}
 use Rattle.codec.specs.Flat.{bounds}
 use Rattle.codec.specs.Records.{fileOf, recordOf}
-use Rattle.store.specs.Add.{addFiled, addTest, afterAdd, isOpened, noSpace}
+use Rattle.store.specs.Add.{addFiled, addTest, afterAdd, unitigOpen, noSpace}
 use Rattle.store.specs.Plain.{Plain, PlainCell, Unitig, accept, accepted, add, addTests, effect, isOpen, tests}
 use Rattle.store.specs.State.{Bufs, CellBufs, Outcome, after, put, withRecords}
 use Rattle.store.specs.declared.state.Cell.{Cell}
@@ -71,8 +71,8 @@ open-more h (rep.opened e g t) = rep.opened e (good-more h g) t
 
 -- ---- a cell
 
-pub opens-agree : {names : ℕ → Type 0} {c : Option Unitig} {o : Current} {used : ℕ} {runs : List ℕ} → OpenRep names c o used runs → isOpened o ≡ isOpen c
-unfolding isOpened isOpen
+pub opens-agree : {names : ℕ → Type 0} {c : Option Unitig} {o : Current} {used : ℕ} {runs : List ℕ} → OpenRep names c o used runs → unitigOpen o ≡ isOpen c
+unfolding unitigOpen isOpen
 opens-agree rep.closed = refl
 opens-agree (rep.opened e g t) = refl
 

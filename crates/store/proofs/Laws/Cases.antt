@@ -22,7 +22,7 @@ use Rattle.runs.specs.Orders.{climbs, sharp}
 use Rattle.runs.specs.Reverse.{reverseRuns}
 use Rattle.runs.specs.Rotate.{changes, firsts, runsAt, merged, rotateRuns}
 use Rattle.runs.specs.Words.{pack}
-use Rattle.store.specs.Add.{isOpened, badIds, noSpace, addTest, sameAdd, addFiled, addCell, addStep}
+use Rattle.store.specs.Add.{unitigOpen, badIds, noSpace, addTest, sameAdd, addFiled, addCell, addStep}
 use Rattle.store.specs.Altered.{alteredBuffer, badVertices, badCurrent, alteredCell, alteredShared, altered}
 use Rattle.store.specs.Close.{sameWay, sameClose, filedRuns, filedBytes, countOf, closeOpen, noCloseSpace, closeTest, closeFiledOf, closeCell, closeStep}
 use Rattle.store.specs.Demand.{LentCall, updating, showing, Seen, seen, sent, outOf, asSeen, allSeen, wayOf, storeUpdate, storeStep, storeRun}
@@ -523,7 +523,7 @@ unfolding
     _when_else_ anyOf over lowBits valueOf bitsOf packBytes packBits highIn highBit gamma delta readZeros readLow readGamma readDelta lebIn prefixOf
     readLeb readPrefix mapBits idsOf absent gapBits regime setBits encodeSet readGaps readMap readSet padding decodeSet within flat recordOf readRecord
     badColors same colours colourFrom climbs sharp reverseRuns shifted skip appendix changes firsts runsAt merged rotateRuns leBytes leValue runBytes
-    words afterCount readRuns sharpColourIn sharpColour isOpened badIds noSpace addTest sameAdd addFiled addCell addStep alteredBuffer badVertices
+    words afterCount readRuns sharpColourIn sharpColour unitigOpen badIds noSpace addTest sameAdd addFiled addCell addStep alteredBuffer badVertices
     badCurrent alteredCell alteredShared altered sameWay sameClose filedRuns filedBytes countOf closeOpen noCloseSpace closeTest closeFiledOf closeCell
     closeStep sent outOf asSeen allSeen wayOf storeUpdate storeStep storeRun unnamed recordStart setIn setFrom setAt readsAs alike sameJoin openCount
     openAt openNew allNamed openTest openSpace joinTest joinFiledAt joinCell joinStep sequenceOf repeated bySequence numbered byGate plainFresh isEmpty

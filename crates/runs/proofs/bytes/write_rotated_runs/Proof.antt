@@ -83,7 +83,7 @@ returns-4 c =
     let small : n ≤ 16777215 = c .before .before .before .before .before .before .before .before .before .before .if1 .left in
     let t = turned-of n (start .args .pivot) _ (start .args .reversed) ws _ small good (c .before .before .before .before .before .before .before .pivot-of .ensures .0) (c .before .before .before .before .before .before .before .pivot-of .ensures .1) (c .before .before .before .before .before .before .count-turned .ensures) in
     let rs = rotateRuns n (start .args .pivot) (start .args .reversed) ws in
-    write-done rs (now (start .args .out)) _ _ (omega (arith, t .few, t .count)) (c .before .before .before .before .before .bytes-for .ensures .0 ∙ ap (λ (k : ℕ). length (prefixOf k) + 8 * k) (t .count)) (c .before .before .before .before .if3 .left) (c .before .before .write-turned .ensures ∙ ap (λ (x : List ℕ). over (runBytes x) (now (start .args .out))) (t .is))
+    write-done rs (now (start .args .out)) _ _ (omega (arith, t .few, t .count)) (c .before .before .before .before .before .bytes-for .ensures .0 ∙ ap (λ (k : ℕ). length (prefixOf k) + 8 * k) (t .count)) (c .before .before .before .before .if3 .left) (c .before .before .write-turned .ensures ∙ ap (λ (x : List ℕ). over (runBytes x) (now (start .args .out))) (t .rotated))
     ∙ write-turned ws n (start .args .pivot) (start .args .reversed) (now (start .args .out)) small good
 
 pub write-rotated-runs-spec : {M : Type 1} → statement M

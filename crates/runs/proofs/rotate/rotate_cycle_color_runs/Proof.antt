@@ -66,7 +66,7 @@ returns-4 c =
     let good : steady n ws ≡ true = sym (c .before .before .before .before .before .before .before .before .is-steady .ensures) ∙ not-false _ (c .before .before .before .before .before .before .before .if2 .left) in
     let small : n ≤ 16777215 = c .before .before .before .before .before .before .before .before .before .if1 .left in
     let t = turned-of n (start .args .pivot) _ (start .args .reversed) ws _ small good (c .before .before .before .before .before .before .pivot-of .ensures .0) (c .before .before .before .before .before .before .pivot-of .ensures .1) (c .before .before .before .before .before .count-turned .ensures) in
-    list-done n ws _ (now (start .args .out)) _ _ small good (t .count) (c .before .before .before .before .if3 .left) (c .before .before .fill-turned .ensures ∙ ap (λ (x : List ℕ). over x (now (start .args .out))) (t .is))
+    list-done n ws _ (now (start .args .out)) _ _ small good (t .count) (c .before .before .before .before .if3 .left) (c .before .before .fill-turned .ensures ∙ ap (λ (x : List ℕ). over x (now (start .args .out))) (t .rotated))
 
 pub rotate-cycle-color-runs-spec : {M : Type 1} → statement M
 rotate-cycle-color-runs-spec =
