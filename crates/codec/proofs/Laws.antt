@@ -17,10 +17,12 @@ pub mod Bitmaps
 pub mod Chunks
 pub mod Filled
 pub mod Sizes
+pub mod Flat
 pub mod Encoded
 pub mod Decoding
 pub mod Records
 pub mod Reading
 pub mod Exactly
+pub mod History
 pub mod Compared
 pub mod Indexing

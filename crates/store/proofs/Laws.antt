@@ -27,5 +27,6 @@ pub mod Accepted
 pub mod Lines
 pub mod Demand
 pub mod Proved
+pub mod History
 -- Worked cases, computed.
 pub mod Cases

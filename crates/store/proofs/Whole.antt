@@ -1,6 +1,10 @@
 -- The page to read: each method meets its contract, whose right side is a step, and every list of steps after an accepted start keeps demand 3.
+use Rattle.codec.specs.History.{FILES-ONE-HISTORY}
+use Rattle.codec.proofs.Laws.History.{files-one-history}
 use Rattle.store.specs.Demand.{DEMAND3}
+use Rattle.store.specs.History.{STORES-ONE-HISTORY}
 use Rattle.store.specs.Once.{EXACTLY-ONCE}
+use Rattle.store.proofs.Laws.History.{stores-one-history}
 use Rattle.store.proofs.Laws.Proved.{DEMAND-3, ONCE-EACH}
 use Rattle.store.proofs.state.Store.start.Statement as start-s
 use Rattle.store.proofs.state.Store.start.Met as start-m
@@ -23,6 +27,9 @@ pub record Whole (M : Type 1) : Type 2 where
   -- lists of such steps
   pub lists : DEMAND3
   pub once : EXACTLY-ONCE
+  -- one file, one history: of record files, and of two stores of as many colours
+  pub files : FILES-ONE-HISTORY
+  pub stores : STORES-ONE-HISTORY
 
 pub whole : {M : Type 1} → Whole M
 whole =
@@ -34,4 +41,6 @@ whole =
       show = show-m.met;
       lists = DEMAND-3;
       once = ONCE-EACH;
+      files = files-one-history;
+      stores = stores-one-history;
     }

@@ -14,5 +14,7 @@ pub mod Show
 pub mod Demand
 -- A corollary of it: each call once.
 pub mod Once
+-- And one of two such lists: what their record bytes tell.
+pub mod History
 -- What serves the functions inside the crate and their proofs; no public contract rests on it alone.
 pub mod Inside

@@ -4,7 +4,7 @@ use mathlib.Core.Path.{_≡_, refl, sym, ap, ap₂, _∙_, subst}
 use mathlib.Core.Bool.{Bool, true, false, cond, _&&_}
 use mathlib.Core.List.{List, [], _∷_, _++_, append-assoc}
 use native.Mathlib.Omega.{arith}
-use lib.ListN.{length, take, drop, getD, length-append, take-append-drop}
+use lib.ListN.{length, take, drop, length-append, take-append-drop}
 use lib.Seq.{take-at, drop-at, length-take-le, getD-append-add}
 use lib.Dec.{leb, ltb}
 use borrow.Author.Tests.{le-leb, leb-true, ltb-true}
@@ -13,16 +13,12 @@ use Rattle.codec.specs.Prefix.{prefixOf, ReadLeb, whole, cut, bad, readL
 use Rattle.codec.specs.Sets.{Within, within, encodeSet, Decoded, set, noSet, decodeSet}
 use Rattle.codec.specs.Records.{recordOf, fileOf, found, short, payloadSet, afterPrefix, readRecord}
 use Rattle.codec.specs.Flat.{flat, bounds}
+use Rattle.codec.specs.History.{Sets}
 use Rattle.codec.specs.Index.{indexFrom, indexOf, entries, stopped, andEntry, behind}
 use Rattle.codec.proofs.Laws.Prefix.{leb-only, prefix-read}
 use Rattle.codec.proofs.Laws.Sets.{decode-encode, decode-only}
 use Rattle.codec.proofs.Laws.Bits.{bytes-take}
 use Rattle.codec.proofs.Laws.Sizes.{payload-size}
-
--- the sets that a store of N colours can hold
-abbrev pub Sets : ℕ → List (List ℕ) → Type 0
-Sets N [] = Unit {0}
-Sets N (s ∷ sets) = Within 0 N s × Sets N sets
 
 narrow-only : (r : ReadLeb) (n : ℕ) (rest : List ℕ) → narrow r ≡ whole n rest → (r ≡ whole n rest) × (n < 2 ^ 32)
 narrow-only cut n rest e = let x : _≡_ {A = ℕ} 0 1 = cc in absurd (omega arith)

@@ -13,11 +13,12 @@ use borrow.Author.Tests.{eqb-false, leb-false, ltb-false}
 use Rattle.base.specs.Answers.{done, refused}
 use Rattle.base.specs.Parts.{over}
 use Rattle.base.specs.Tests.{_when_else_}
+use Rattle.base.proofs.All.{All}
 use Rattle.base.proofs.Bools.{or-none}
 use Rattle.base.proofs.Tests.{none-of}
 use Rattle.codec.specs.Flat.{flat, bounds}
 use Rattle.codec.specs.Records.{badColors, fileOf}
-use Rattle.codec.proofs.Promise.{promise}
+use Rattle.codec.proofs.Promise.{IsSet, promise}
 use Rattle.runs.specs.Words.{coordinateOf, placeOf}
 use Rattle.runs.proofs.Laws.Words.{coordinate-of}
 use Rattle.store.specs.Demand.{Demand3, LentCall, LinesSent, RecordsKept, Seen, ShowsSent, UnitigsKept, acceptedFrom, allSeen, asSeen, lineRuns, outOf, seen, sent, setFor, setsIn, showing, storeRun, tableOf}
@@ -232,6 +233,10 @@ module _ (N W : ℕ) (b : Bufs) (x : badLimits N W ≡ false) (y : badLengths (l
     colors-are : plain calls .N ≡ N
     unfolding plainFresh
     colors-are = kept p₀ (map sent calls) .0
+
+    -- each accepted set is one of N colours
+    pub each-set : All (IsSet N) (setsIn (acceptedFrom 0 calls (left calls .0)))
+    each-set = rw (colors-are, sets-are) at (ran calls .rep .cell .filed .each)
 
     -- the set that the first accepted add with this vertex's coordinate sent
     sent-set : (early late : List LentCall) (k v : ℕ) (out : List ℕ) → calls ≡ early ++ (showing k v out ∷ late) → k < length (plain early .closed) → v < length (getD (plain early .closed) k noUnitig .coords)

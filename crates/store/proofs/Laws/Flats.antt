@@ -1,27 +1,23 @@
 -- Laws of items one after another: one more, the start of each, and the bytes from a start on.
 use Prim.Native.Nat.{ℕ, zero, suc, _+_, _<_, _≤_}
 use mathlib.Core.Path.{_≡_, refl, sym, ap, _∙_}
-use mathlib.Core.List.{List, [], _∷_, _++_, append-assoc, append-nil}
+use mathlib.Core.List.{List, [], _∷_, _++_, append-nil}
 use native.Mathlib.Omega.{arith}
 use native.Mathlib.Nat.{add-zero}
 use lib.ListN.{length, getD, take, drop, length-append, take-append-drop}
 use lib.Seq.{drop-append-add}
 use Rattle.codec.specs.Flat.{flat, bounds}
+use Rattle.codec.proofs.Laws.Flat.{flat-append}
 
 module _ {A : Type 0} (enc : A → List ℕ) where
-  flat-append : (xs ys : List A) → flat enc (xs ++ ys) ≡ flat enc xs ++ flat enc ys
-  unfolding flat
-  flat-append [] ys = refl
-  flat-append (x ∷ xs) ys = rw (flat-append xs ys) (sym (append-assoc (enc x) (flat enc xs) (flat enc ys)))
-
   pub flat-more : (xs : List A) (x : A) → flat enc (xs ++ (x ∷ [])) ≡ flat enc xs ++ enc x
   unfolding flat
-  flat-more xs x = flat-append xs (x ∷ []) ∙ ap (λ (l : List ℕ). flat enc xs ++ l) (append-nil (enc x))
+  flat-more xs x = flat-append enc xs (x ∷ []) ∙ ap (λ (l : List ℕ). flat enc xs ++ l) (append-nil (enc x))
 
   -- some of the items are no longer than all
   pub flat-take : (xs : List A) (k : ℕ) → length (flat enc (take k xs)) ≤ length (flat enc xs)
   flat-take xs k =
-      let e : flat enc (take k xs) ++ flat enc (drop k xs) ≡ flat enc xs = sym (flat-append (take k xs) (drop k xs)) ∙ ap (flat enc) (take-append-drop k xs) in
+      let e : flat enc (take k xs) ++ flat enc (drop k xs) ≡ flat enc xs = sym (flat-append enc (take k xs) (drop k xs)) ∙ ap (flat enc) (take-append-drop k xs) in
       omega (arith, simp length-append at (ap length e))
 
   pub starts-more : (o : ℕ) (xs : List A) (x : A) → bounds enc o (xs ++ (x ∷ [])) ≡ bounds enc o xs ++ ((o + length (flat enc xs) + length (enc x)) ∷ [])
