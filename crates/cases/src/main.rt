@@ -1,5 +1,8 @@
 // Replays recorded answers: each line of the file `answers` is a call and what it must answer. data/README.md describes a line.
+// Then compares record files: each line of the file `files` is one.
 // Nothing is proved of the answers here, only that the program is safe and ends; what it prints is compared with `stdout`.
+mod files; // which record file is the beginning of which
+
 use libc::STDOUT_FILENO;
 ghost use mathlib.Core.Path.{_≡_};
 ghost use lib.ListN.{length};
@@ -484,14 +487,24 @@ fn replay_all(text: &[u8]) {
     replay(text, &mut numbers, &mut bytes, &mut ids, &mut words);
 }
 
-fn main() {
-    let fd = os::open_read(b"answers");
+// The bytes of a file, as many as there is space for; none where it can't be read.
+fn read_file(name: &[u8], text: &mut [u8]) -> usize
+    ensures { λ r. ⌜ Counts r (now (text .exit)) ⌝ }
+{
+    let fd = os::open_read(name);
     if fd < 0 {
-        os::fail(b"answers");
-        return;
+        os::fail(name);
+        return 0;
     }
-    let mut text = text_buffer();
-    let n = io::read_full(fd, &mut text);
+    let n = io::read_full(fd, text);
     libc::close(fd);
+    n
+}
+
+fn main() {
+    let mut text = text_buffer();
+    let n = read_file(b"answers", &mut text);
     replay_all(&text[..n]);
+    let n = read_file(b"files", &mut text);
+    files::compare_all(&text[..n]);
 }

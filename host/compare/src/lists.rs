@@ -103,6 +103,36 @@ impl List {
     }
 }
 
+/// What a store holds of its sets behind a list of calls.
+pub struct History {
+    pub n: u32,
+    /// The used bytes of its record file.
+    pub records: Vec<u8>,
+    /// The accepted sets, in order.
+    pub sets: Vec<Vec<u32>>,
+}
+
+impl List {
+    /// Where the start was accepted.
+    pub fn history(&self) -> Option<History> {
+        let used = self.started.ok()?.used.records as usize;
+        let sets = self.calls.iter().zip(&self.accepted);
+        Some(History {
+            n: self.n,
+            records: self.buffers.records[..used].to_vec(),
+            sets: sets
+                .filter_map(|(call, &accepted)| match call {
+                    Call::Numbered {
+                        deed: Deed::Add { ids },
+                        ..
+                    } if accepted => Some(ids.clone()),
+                    _ => None,
+                })
+                .collect(),
+        })
+    }
+}
+
 /// What a run of lists should reach beside every refusal: the bounds from within.
 pub const BOUNDS: [&str; 9] = [
     "record file full",

@@ -7,7 +7,6 @@ use crate::reference::{Outcome, RELEASE};
 use model::records::record_of;
 use model::runs::pack;
 use model::{MAX_VERTICES, Why};
-use std::fmt::Write;
 
 /// No list of a line is longer, and no output lent: the program's buffers have this many places.
 pub const MOST: usize = 2048;
@@ -47,10 +46,7 @@ impl Recorded {
             numbers.push(list.len() as u64);
             numbers.extend(list);
         }
-        for (i, number) in numbers.iter().enumerate() {
-            let end = if i + 1 < numbers.len() { ' ' } else { '\n' };
-            write!(self.text, "{number:X}{end}").expect("a string grows");
-        }
+        self.text += &line_of(&numbers);
         self.lines += 1;
     }
 
@@ -247,6 +243,12 @@ impl Recorded {
         });
         self.lent(9, [0; 4], &wide(bytes), answer, short);
     }
+}
+
+/// Numbers in hexadecimal, one blank between them.
+pub fn line_of(numbers: &[u64]) -> String {
+    let words: Vec<String> = numbers.iter().map(|number| format!("{number:X}")).collect();
+    words.join(" ") + "\n"
 }
 
 fn wide<T: Copy + Into<u64>>(items: &[T]) -> Vec<u64> {

@@ -2,14 +2,10 @@ use native.Mathlib.Omega.{arith}
 use Rattle.io.proofs.Counting.{counts}
 use Rattle.cases.proofs.bytes_of.Statement.{statement}
 use Rattle.cases.proofs.bytes_of.Tie as tie
-use Rattle.cases.proofs.bytes_of.Reads as reads
-use Rattle.cases.proofs.bytes_of.Lts as lts
 
--- src/main.rt:175:9
 returns : tie.Need-returns
 returns c = counts _ _ (omega arith)
 
--- src/main.rt:171:1
 returns-2 : tie.Need-returns-2
 returns-2 c = counts _ _ (omega arith)
 

@@ -2,14 +2,10 @@ use native.Mathlib.Omega.{arith}
 use Rattle.io.proofs.Counting.{counts}
 use Rattle.cases.proofs.ids_of.Statement.{statement}
 use Rattle.cases.proofs.ids_of.Tie as tie
-use Rattle.cases.proofs.ids_of.Reads as reads
-use Rattle.cases.proofs.ids_of.Lts as lts
 
--- src/main.rt:184:9
 returns : tie.Need-returns
 returns c = counts _ _ (omega arith)
 
--- src/main.rt:180:1
 returns-2 : tie.Need-returns-2
 returns-2 c = counts _ _ (omega arith)
 

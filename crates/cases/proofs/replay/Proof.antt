@@ -3,13 +3,6 @@ use lib.ListN.{length}
 use borrow.Author.Needs.{needs}
 use Rattle.cases.proofs.replay.Statement.{statement}
 use Rattle.cases.proofs.replay.Tie as tie
-use Rattle.cases.proofs.replay.Reads as reads
-use Rattle.cases.proofs.replay.Lts as lts
-use Rattle.cases.proofs.differs.Reads as differs-reads
-use Rattle.cases.proofs.read_line.Reads as read-line-reads
-use Rattle.cases.proofs.tell.Reads as tell-reads
-use Rattle.cases.proofs.tell_all.Reads as tell-all-reads
-use Rattle.std.proofs.num.wrapping_add_u64.Reads as wrapping-add-u64-reads
 
 abbrev Inv-loop : tie.InvT-loop
 Inv-loop text numbers₀ bytes₀ ids₀ words₀ at₀ lines₀ different₀ turns₀ numbers bytes ids words at lines different turns =
@@ -19,63 +12,48 @@ abbrev μ-loop : tie.MeasureT-loop
 μ-loop text numbers₀ bytes₀ ids₀ words₀ at₀ lines₀ different₀ turns₀ numbers bytes ids words at lines different turns =
     turns
 
--- src/main.rt:420:5
 loop-holds : tie.Need-loop-holds Inv-loop μ-loop
 loop-holds c = search needs
 
--- src/main.rt:424:13
 read-line-requires : tie.Need-read-line-requires Inv-loop μ-loop
 read-line-requires c κs = search needs
 
--- src/main.rt:426:9
 wrapping-add-u64-requires : tie.Need-wrapping-add-u64-requires Inv-loop μ-loop
 wrapping-add-u64-requires c κs = search needs
 
--- src/main.rt:427:13
 differs-requires : tie.Need-differs-requires Inv-loop μ-loop
 differs-requires c κs = search needs
 
--- src/main.rt:428:9
 wrapping-add-u64-requires-2 : tie.Need-wrapping-add-u64-requires-2 Inv-loop μ-loop
 wrapping-add-u64-requires-2 c κs = search needs
 
--- src/main.rt:429:9
 tell-requires : tie.Need-tell-requires Inv-loop μ-loop
 tell-requires c κs = search needs
 
--- src/main.rt:430:9
 sub-turns : tie.Need-sub-turns Inv-loop μ-loop
 sub-turns c = search needs
 
--- src/main.rt:420:5
 loop-less : tie.Need-loop-less Inv-loop μ-loop
 loop-less c = search needs
 
--- src/main.rt:420:5
 loop-again : tie.Need-loop-again Inv-loop μ-loop
 loop-again c = search needs
 
--- src/main.rt:432:5
 tell-all-requires : tie.Need-tell-all-requires Inv-loop μ-loop
 tell-all-requires c κs = search needs
 
--- src/main.rt:413:1
 same-length : tie.Need-same-length Inv-loop μ-loop
 same-length c = search needs
 
--- src/main.rt:413:1
 same-length-2 : tie.Need-same-length-2 Inv-loop μ-loop
 same-length-2 c = search needs
 
--- src/main.rt:413:1
 same-length-3 : tie.Need-same-length-3 Inv-loop μ-loop
 same-length-3 c = search needs
 
--- src/main.rt:413:1
 same-length-4 : tie.Need-same-length-4 Inv-loop μ-loop
 same-length-4 c = search needs
 
--- src/main.rt:413:1
 returns : tie.Need-returns Inv-loop μ-loop
 returns c = search needs
 

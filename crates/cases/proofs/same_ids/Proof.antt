@@ -3,10 +3,6 @@ use lib.ListN.{length}
 use borrow.Author.Needs.{needs}
 use Rattle.cases.proofs.same_ids.Statement.{statement}
 use Rattle.cases.proofs.same_ids.Tie as tie
-use Rattle.cases.proofs.same_ids.Reads as reads
-use Rattle.cases.proofs.same_ids.Lts as lts
-use Rattle.cases.proofs.item.Reads as item-reads
-use Rattle.cases.proofs.wide32.Reads as wide32-reads
 
 abbrev Inv-loop : tie.InvT-loop
 Inv-loop items got i₀ i = Unit {0}
@@ -14,43 +10,33 @@ Inv-loop items got i₀ i = Unit {0}
 abbrev μ-loop : tie.MeasureT-loop
 μ-loop items got i₀ i = length got - i
 
--- src/main.rt:138:5
 loop-holds : tie.Need-loop-holds Inv-loop μ-loop
 loop-holds c = search needs
 
--- src/main.rt:139:19
 mul-wide32 : tie.Need-mul-wide32 Inv-loop μ-loop
 mul-wide32 c = search needs
 
--- src/main.rt:139:19
 shared-slice-read-wide32 : tie.Need-shared-slice-read-wide32 Inv-loop μ-loop
 shared-slice-read-wide32 c = search needs
 
--- src/main.rt:139:12
 wide32-requires : tie.Need-wide32-requires Inv-loop μ-loop
 wide32-requires c κs = search needs
 
--- src/main.rt:139:30
 item-requires : tie.Need-item-requires Inv-loop μ-loop
 item-requires c κs = search needs
 
--- src/main.rt:140:13
 returns : tie.Need-returns Inv-loop μ-loop
 returns c = search needs
 
--- src/main.rt:142:9
 add-i : tie.Need-add-i Inv-loop μ-loop
 add-i c = search needs
 
--- src/main.rt:138:5
 loop-less : tie.Need-loop-less Inv-loop μ-loop
 loop-less c = search needs
 
--- src/main.rt:138:5
 loop-again : tie.Need-loop-again Inv-loop μ-loop
 loop-again c = search needs
 
--- src/main.rt:136:1
 returns-2 : tie.Need-returns-2 Inv-loop μ-loop
 returns-2 c = search needs
 

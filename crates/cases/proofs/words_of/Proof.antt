@@ -2,14 +2,10 @@ use native.Mathlib.Omega.{arith}
 use Rattle.io.proofs.Counting.{counts}
 use Rattle.cases.proofs.words_of.Statement.{statement}
 use Rattle.cases.proofs.words_of.Tie as tie
-use Rattle.cases.proofs.words_of.Reads as reads
-use Rattle.cases.proofs.words_of.Lts as lts
 
--- src/main.rt:193:9
 returns : tie.Need-returns
 returns c = counts _ _ (omega arith)
 
--- src/main.rt:189:1
 returns-2 : tie.Need-returns-2
 returns-2 c = counts _ _ (omega arith)
 

@@ -1,11 +1,12 @@
 //! Random lists of calls: `lists [CALLS [SEED]]`. At least CALLS calls (100,000), in lists that begin with a start each, go through both
 //! models of the store and the proved programs `roadfinch` (as command lines) and `sessions` (as numbers), which must have been
 //! built. Every line that a program answers is compared with the model's. SEED begins the lists (1): the same two numbers repeat
-//! the same run. Exits with 1 where an answer differs, or where a refusal that calls can reach, or a bound, was not met,
-//! as far fewer calls may not.
+//! the same run. The stores of one colour count are then compared, each with each: the record bytes of the one are the beginning
+//! of the other's exactly when its accepted sets are. Exits with 1 where an answer or such a pair differs, or where a refusal that
+//! calls can reach, or a bound, was not met, as far fewer calls may not.
 
 use compare::commands::{Line, lines_of};
-use compare::lists::{BOUNDS, List, Told};
+use compare::lists::{BOUNDS, History, List, Told};
 use compare::random::Random;
 use compare::run::grouped;
 use compare::sessions::{MOST_BYTES, Session, session_of};
@@ -223,6 +224,31 @@ fn feed_session(
     }
 }
 
+/// One file, one history: each two stores of one colour count.
+fn compare_histories(histories: &[History], tally: &mut Tally) {
+    let (mut pairs, mut beginnings) = (0, 0);
+    for a in histories {
+        for b in histories.iter().filter(|b| a.n == b.n) {
+            let begins = b.sets.starts_with(&a.sets);
+            pairs += 1;
+            beginnings += u64::from(begins);
+            if b.records.starts_with(&a.records) != begins {
+                tally.fail(|| {
+                    format!(
+                        "of {} colours: {:?} and {:?} in sets, {:02X?} and {:02X?} in bytes",
+                        a.n, a.sets, b.sets, a.records, b.records
+                    )
+                });
+            }
+        }
+    }
+    println!(
+        "record files: {} pairs of one colour count, {} where the one is the beginning of the other",
+        grouped(pairs),
+        grouped(beginnings)
+    );
+}
+
 fn print_counts(counts: &Counts) {
     for operation in OPERATIONS {
         let mut line = format!("  {operation}:");
@@ -257,6 +283,7 @@ fn main() {
     let mut sessions: Vec<Feed> = Vec::new();
     let (mut lists, mut made) = (0, 0);
     let mut bounds = [0; BOUNDS.len()];
+    let mut histories = Vec::new();
     while made < calls || lists < LARGEST {
         let shape = if lists < LARGEST {
             random.largest_shape()
@@ -273,6 +300,7 @@ fn main() {
         for (count, reached) in bounds.iter_mut().zip(list.bounds()) {
             *count += u64::from(reached);
         }
+        histories.extend(list.history());
         let counted = counted_of(&list);
         let lines = lines_of(&list);
         feed_commands(&mut commands, lists, &lines, &counted);
@@ -286,6 +314,8 @@ fn main() {
         models.failed,
         began.elapsed().as_secs_f64()
     );
+
+    compare_histories(&histories, &mut models);
 
     let mut failed = models.failed;
     let mut tallies = Vec::new();
