@@ -4,7 +4,8 @@
 -- the reader takes a payload for the one set that is written so. Two files of which one begins the other therefore begin with the same set, and behind its record they are again
 -- two such files (`record-free`).
 --
--- Why N is fixed: 01 12 is the record of {1} of two colours and of {0} of three (`colours-tell`). There is no smaller pair.
+-- Why N is fixed: 01 12 is the record of {1} of two colours and of {0} of three (`colours-tell`). It is the smallest pair that a search finds (host/model/tests/history.rs).
+-- Why the ids are below N: four colours have no bit for the ids 4 and 5 (`below-tells`).
 use Prim.Native.Nat.{ℕ, _≤_}
 use mathlib.Core.Path.{_≡_}
 use mathlib.Core.Logic.{_↔_}

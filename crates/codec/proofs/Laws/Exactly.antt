@@ -6,16 +6,16 @@ use mathlib.Core.Bool.{Bool, true, false}
 use mathlib.Core.List.{List, [], _∷_, _++_}
 use native.Mathlib.Omega.{arith}
 use lib.ListN.{length, length-append}
-use lib.Dec.{ltb, eqb}
-use borrow.Author.Tests.{le-ltb, ne-eqb, ltb-false}
+use lib.Dec.{ltb}
+use borrow.Author.Tests.{le-ltb, ltb-false}
 use Rattle.base.specs.Tests.{_when_else_}
 use Rattle.base.specs.Answers.{Answer, refused, done}
 use Rattle.base.specs.Parts.{over}
-use Rattle.base.proofs.Bools.{or-false}
 use Rattle.base.proofs.Tests.{when-no}
 use Rattle.codec.specs.Bits.{AreBytes}
 use Rattle.codec.specs.Sets.{Within}
-use Rattle.codec.specs.Records.{recordOf, ReadRecord, found, short, damaged, readRecord, badColors, readBy, readInto}
+use Rattle.codec.specs.Records.{recordOf, ReadRecord, found, short, damaged, readRecord, readBy, readInto}
+use Rattle.codec.proofs.Laws.Reading.{in-limits}
 use Rattle.codec.proofs.Laws.Records.{record-read, record-only}
 
 -- the input begins with the record of a set, for whose ids the output has space, and these are what reading gives and what the output then holds
@@ -27,10 +27,6 @@ pub record Reads (N : ℕ) (input out : List ℕ) (answer : List ℕ) (after : L
   pub space : length ids ≤ length out
   pub answers : answer ≡ length ids ∷ length (recordOf N ids) ∷ []
   pub output : after ≡ over ids out
-
-in-limits : (N : ℕ) → 1 ≤ N → N ≤ 2 ^ 20 → badColors N ≡ false
-unfolding badColors
-in-limits N some most = or-false (eqb N 0) (ltb 1048576 N) (ne-eqb N 0 (λ e. omega arith)) (le-ltb 1048576 N most)
 
 reads-found : (ids rest out : List ℕ) (total : ℕ) → length ids ≤ length out → readBy (found ids rest) total out ≡ (done (length ids ∷ (total - length rest) ∷ []), over ids out)
 unfolding readBy

@@ -20,6 +20,11 @@ pub colours-tell : fileOf 2 ((1 ∷ []) ∷ []) ≡ fileOf 3 ((0 ∷ []) ∷ [])
 unfolding flat recordOf encodeSet setBits regime mapBits absent idsOf gapBits delta gamma highBit highIn packBits packBytes valueOf lowBits prefixOf lebIn
 colours-tell = refl
 
+-- of ids that are not below four: the same bytes, other lists
+pub below-tells : fileOf 4 ((4 ∷ []) ∷ []) ≡ fileOf 4 ((5 ∷ []) ∷ [])
+unfolding flat recordOf encodeSet setBits regime mapBits absent idsOf gapBits delta gamma highBit highIn packBits packBytes valueOf lowBits prefixOf lebIn
+below-tells = refl
+
 -- nothing is read of no bytes
 nothing : (N : ℕ) → readRecord N [] ≡ short
 unfolding readRecord readPrefix readLeb

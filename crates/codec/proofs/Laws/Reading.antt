@@ -82,6 +82,10 @@ module _ (N : ℕ) (input out : List ℕ) (good : badColors N ≡ false) where
   pub read-whole : (v len : ℕ) → readPrefix input ≡ whole v (drop len input) → readBy (afterPrefix N (whole v (drop len input))) (length input) out ≡ readInto N input out
   read-whole v len e = sym (by-prefix (whole v (drop len input)) e)
 
+pub in-limits : (N : ℕ) → 1 ≤ N → N ≤ 2 ^ 20 → badColors N ≡ false
+unfolding badColors
+in-limits N some most = or-false (eqb N 0) (ltb 1048576 N) (ne-eqb N 0 (λ e. omega arith)) (le-ltb 1048576 N most)
+
 -- ---- what is accepted
 
 -- a record is read exactly where the written record of a set stands
@@ -113,10 +117,9 @@ record-free N some most a b r s v w e =
 -- what is written is read back, with whatever stands behind it
 pub write-read : (N : ℕ) → 1 ≤ N → N ≤ 2 ^ 20 → (ids out room : List ℕ) → Within 0 N ids → length (recordOf N ids) ≤ length out → length ids ≤ length room
     → readInto N (over (recordOf N ids) out) room ≡ (done (length ids ∷ length (recordOf N ids) ∷ []), over ids room)
-unfolding readInto readBy over badColors
+unfolding readInto readBy over
 write-read N some most ids out room w fits enough =
     let bytes : List ℕ = recordOf N ids in
     let rest : List ℕ = drop (length bytes) out in
     let taken : length (bytes ++ rest) - length rest ≡ length bytes = omega (arith, length-append bytes rest) in
-    let good : badColors N ≡ false = or-false (eqb N 0) (ltb 1048576 N) (ne-eqb N 0 (λ e. omega arith)) (le-ltb 1048576 N most) in
-    rw (record-read N some most ids rest w, when-no _ _ _ good, taken, when-no _ _ _ (le-ltb (length room) (length ids) enough))
+    rw (record-read N some most ids rest w, when-no _ _ _ (in-limits N some most), taken, when-no _ _ _ (le-ltb (length room) (length ids) enough))
