@@ -15,7 +15,7 @@ use Rattle.codec.specs.Index.{indexOf, entries}
 use Rattle.codec.specs.Records.{badColors, fileOf, readRecord, recordOf, found}
 use Rattle.codec.specs.Sets.{within}
 use Rattle.codec.proofs.Laws.History.{files-one-history}
-use Rattle.codec.proofs.Laws.Records.{index-read, record-read, within-ids}
+use Rattle.codec.proofs.Laws.Records.{index-read, record-empty, record-read, within-ids}
 
 -- strictly ascending ids, each below N
 abbrev pub IsSet : ℕ → List ℕ → Type 0
@@ -24,6 +24,8 @@ IsSet N ids = within 0 N ids ≡ true
 pub record Promise : Type 0 where
   -- a written record reads back, whatever stands behind it
   pub read : (N : ℕ) → badColors N ≡ false → (ids rest : List ℕ) → IsSet N ids → readRecord N (recordOf N ids ++ rest) ≡ found ids rest
+  -- the empty set's record is 01 01, whatever N
+  pub emptyRecord : (N : ℕ) → recordOf N [] ≡ 0x01 ∷ 0x01 ∷ []
   -- the index made from written records is where each begins, and where the last ends
   pub index : (N : ℕ) → badColors N ≡ false → (S : List (List ℕ)) → All (IsSet N) S → indexOf (length S) (fileOf N S) ≡ entries (bounds (recordOf N) 0 S)
   -- the bytes of two files tell which list of sets is the beginning of the other
@@ -44,6 +46,7 @@ pub promise : Promise
 promise =
     record {
       read = λ N e ids rest s. let l = limits N e in record-read N (l .0) (l .1) ids rest (within-ids 0 N ids s);
+      emptyRecord = record-empty;
       index = λ N e S h. let l = limits N e in index-read N (l .0) (l .1) S (each-within N S h);
       history = λ N e S T h k. let l = limits N e in files-one-history N (l .0) (l .1) S T (each-within N S h) (each-within N T k);
     }

@@ -15,7 +15,7 @@ ghost use Rattle.store.specs.Demand.{storeStep, updating, updated};
 ghost use Rattle.replay.specs.Tape.{refusalOf, valueOf, notedOf, spanOf, part, headAt, roomOf, lentOf, toldOf, shownOf, oneOf, tape, replayStep, sessionClaim};
 
 // A call: 0 adds ids, 1 joins a piece of b vertices, reversed where c is not 0, 2 closes a line, 3 a cycle with pivot b, each with
-// number a; anything else shows vertex b of unitig a. `from` and `count` updating which ids or runs; a show takes `count` places of the output.
+// number a; anything else shows vertex b of unitig a. `from` and `count` say which ids or runs; a show takes `count` places of the output.
 pub struct Head {
     pub kind: u32,
     pub a: u32,

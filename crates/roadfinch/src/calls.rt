@@ -187,7 +187,7 @@ fn add_to(
     )
 }
 
-// add NUMBER ID..
+// add NUMBER [ID..]
 pub(crate) fn add(
     store: Store,
     words: &[u8],

@@ -115,7 +115,7 @@ fn ids_behind(number: u32, words: &[u8], from: usize, ids: &mut Ids) -> Numbered
     }
 }
 
-// NUMBER ID..
+// NUMBER [ID..]
 pub(crate) fn numbered_ids(words: &[u8], from: usize, ids: &mut Ids) -> Numbered {
     match number_at(words, from) {
         NumberAt::Wrong(f) => Numbered::Wrong(f),

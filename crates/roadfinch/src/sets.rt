@@ -29,7 +29,7 @@ fn encode_ids(n: u32, words: &[u8], from: usize, ids: &mut Ids, space: &mut Spac
     }
 }
 
-// encode N ID..
+// encode N [ID..]
 pub(crate) fn encode(words: &[u8], from: usize, ids: &mut Ids, space: &mut Space) -> Reply {
     match parse::number_at(words, from) {
         NumberAt::At { value, next } => encode_ids(value, words, next, ids, space),

@@ -28,7 +28,7 @@ pub fn put_reason(r: Refusal, at: usize, out: &mut [u8]) -> usize
     match r {
         Refusal::Colors => put(b"1 colour count or worker outside its limits", at, out),
         Refusal::Ids => put(
-            b"2 ids missing, not strictly ascending, or not below the colour count",
+            b"2 ids not strictly ascending, or not below the colour count",
             at,
             out,
         ),

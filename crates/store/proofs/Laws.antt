@@ -28,5 +28,6 @@ pub mod Lines
 pub mod Demand
 pub mod Proved
 pub mod History
+pub mod Empty
 -- Worked cases, computed.
 pub mod Cases

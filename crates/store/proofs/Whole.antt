@@ -2,8 +2,10 @@
 use Rattle.codec.specs.History.{FILES-ONE-HISTORY}
 use Rattle.codec.proofs.Laws.History.{files-one-history}
 use Rattle.store.specs.Demand.{DEMAND3}
+use Rattle.store.specs.Empty.{EMPTY-SET}
 use Rattle.store.specs.History.{STORES-ONE-HISTORY}
 use Rattle.store.specs.Once.{EXACTLY-ONCE}
+use Rattle.store.proofs.Laws.Empty.{empty-set}
 use Rattle.store.proofs.Laws.History.{stores-one-history}
 use Rattle.store.proofs.Laws.Proved.{DEMAND-3, ONCE-EACH}
 use Rattle.store.proofs.state.Store.start.Statement as start-s
@@ -30,6 +32,8 @@ pub record Whole (M : Type 1) : Type 2 where
   -- one file, one history: of record files, and of two stores of as many colours
   pub files : FILES-ONE-HISTORY
   pub stores : STORES-ONE-HISTORY
+  -- the empty set: its add, its record and its show
+  pub emptySet : EMPTY-SET
 
 pub whole : {M : Type 1} → Whole M
 whole =
@@ -43,4 +47,5 @@ whole =
       once = ONCE-EACH;
       files = files-one-history;
       stores = stores-one-history;
+      emptySet = empty-set;
     }

@@ -1,9 +1,9 @@
--- "What each operation turns down" of 01: add. 12, 2, 3; the record goes behind the used bytes, with one index entry.
+-- "What each operation turns down" of 01, with request F-1: add. 12, 2, 3; the record goes behind the used bytes, with one index entry.
 use Prim.Native.Nat.{ℕ, _+_}
 use mathlib.Core.Bool.{Bool, true, false, not, _||_}
 use mathlib.Core.List.{List, [], _∷_}
 use lib.ListN.{length, set}
-use lib.Dec.{ltb, eqb}
+use lib.Dec.{ltb}
 use Rattle.base.specs.Answers.{Answer, done, refused}
 use Rattle.base.specs.Tests.{_when_else_}
 use Rattle.base.specs.declared.Refusal.the-variants.{Ids, Opened, Space}
@@ -27,10 +27,6 @@ unfoldable pub unitigOpen : Current → Bool
 unitigOpen Nothing = false
 unitigOpen (Open n) = true
 
--- no ids, or not strictly ascending, or one not below N
-unfoldable pub badIds : ℕ → List ℕ → Bool
-badIds N ids = eqb (length ids) 0 || not (within 0 N ids)
-
 -- a record of so many bytes doesn't fit the rest of the file, or no index entry is free
 unfoldable pub noSpace : Cell → ℕ → Bool
 noSpace c len = ltb (c .records .length) (c .records .used + len) || ltb (c .index) (c .sets + 2)
@@ -39,8 +35,8 @@ unfoldable pub addTest : ℕ → Cell → List ℕ → Gate
 addTest N c ids =
     -- 12, a unitig is open
     Refuse Opened when unitigOpen (c .current) else
-    -- 2, as above or no ids
-    Refuse Ids when badIds N ids else
+    -- 2, ids not strictly ascending or one not below N; no ids are a set (request F-1)
+    Refuse Ids when not (within 0 N ids) else
     -- 3, the record doesn't fit the rest of the file, or no index entry is free
     Refuse Space when noSpace c (length (recordOf N ids)) else
     Go

@@ -1,5 +1,5 @@
 -- Section 7 of 01: lists of calls on the store over its buffers, and demand 3 of such a list.
-use Prim.Native.Nat.{ℕ, suc, _+_, _-_, _*_}
+use Prim.Native.Nat.{ℕ, _+_, _-_, _*_}
 use mathlib.Core.Path.{_≡_}
 use mathlib.Core.List.{List, [], _∷_, _++_, map}
 use mathlib.Core.Option.{Option, none, some}
@@ -142,13 +142,17 @@ ShowsSent N W lengths calls seens =
     × (values ≡ length ids ∷ [])
     × (getD seens (length early) (seen (refused 0) []) .out ≡ over ids out)
 
+-- the record file means its used bytes
+abbrev pub recordFile : Cell → CellBufs → List ℕ
+recordFile c b = take (c .records .used) (b .records)
+
 -- what a cell owes of its accepted sets
 pub record RecordsKept (N : ℕ) (sets : List (List ℕ)) (c : Cell) (b : CellBufs) : Type 0 where
-  -- the used bytes are the sets' records, each once and in order
-  pub file : take (c .records .used) (b .records) ≡ fileOf N sets
+  -- the sets' records, each once and in order
+  pub file : recordFile c b ≡ fileOf N sets
   pub count : c .sets ≡ length sets
   -- the index is the one made afresh from those bytes
-  pub index : indexOf (c .sets) (take (c .records .used) (b .records)) ≡ entries (take (c .sets + 1) (b .index))
+  pub index : indexOf (c .sets) (recordFile c b) ≡ entries (take (c .sets + 1) (b .index))
 
 -- byte start and vertex count of each unitig
 unfoldable pub tableOf : ℕ → List Unitig → List ℕ

@@ -2,10 +2,9 @@
 use Prim.Native.Nat.{ℕ}
 use mathlib.Core.Path.{_≡_}
 use mathlib.Core.List.{List, []}
-use lib.ListN.{take}
 use Rattle.base.specs.Answers.{done}
 use Rattle.codec.specs.History.{OneHistory}
-use Rattle.store.specs.Demand.{LentCall, Seen, acceptedFrom, setsIn, storeRun}
+use Rattle.store.specs.Demand.{LentCall, Seen, acceptedFrom, recordFile, setsIn, storeRun}
 use Rattle.store.specs.Start.{startStep}
 use Rattle.store.specs.State.{Bufs}
 use Rattle.store.specs.declared.state.Store.{Store}
@@ -22,9 +21,9 @@ pub record History (N : ℕ) : Type 0 where
 abbrev pub ran : {N : ℕ} → History N → List Seen × Store × Bufs
 ran h = storeRun (h .store) (h .bufs) (h .calls)
 
--- the used bytes of its record file
+-- its record file
 abbrev pub recordBytes : {N : ℕ} → History N → List ℕ
-recordBytes h = take (ran h .1 .cell .records .used) (ran h .2 .cell .records)
+recordBytes h = recordFile (ran h .1 .cell) (ran h .2 .cell)
 
 -- the sets that it accepted, in order
 abbrev pub acceptedSets : {N : ℕ} → History N → List (List ℕ)

@@ -16,5 +16,7 @@ pub mod Demand
 pub mod Once
 -- And one of two such lists: what their record bytes tell.
 pub mod History
+-- And one of the empty set: its add, its record and its show.
+pub mod Empty
 -- What serves the functions inside the crate and their proofs; no public contract rests on it alone.
 pub mod Inside

@@ -1,4 +1,4 @@
--- Section 7 of 01: the plain store. It shares no test with the store over its buffers.
+-- Section 7 of 01, with request F-1: the plain store. It shares no test with the store over its buffers.
 use Prim.Native.Nat.{ℕ, zero, suc, _+_, _-_, _*_, _/_, _%_}
 use mathlib.Core.Bool.{Bool, true, false, not, _||_, _&&_}
 use mathlib.Core.List.{List, [], _∷_, _++_, map, reverse}
@@ -98,9 +98,9 @@ unfoldable pub allBelow : ℕ → List ℕ → Bool
 allBelow n [] = true
 allBelow n (x ∷ xs) = ltb x n && allBelow n xs
 
--- some ids, strictly ascending, each below N
+-- strictly ascending, each below N: the empty set too (request F-1)
 unfoldable pub isSet : ℕ → List ℕ → Bool
-isSet N ids = not (isEmpty ids) && ascends ids && allBelow N ids
+isSet N ids = ascends ids && allBelow N ids
 
 -- starts of a sharp list: some, the first at 0, strictly ascending, below n
 unfoldable pub areSharp : ℕ → List ℕ → Bool
@@ -189,7 +189,7 @@ unfoldable pub addTests : ℕ → PlainCell → List ℕ → Verdict
 addTests N c ids =
     -- 12, a unitig is open
     refuse 12 when isOpen (c .current) else
-    -- 2, ids not strictly ascending or one not below N, or no ids
+    -- 2, ids not strictly ascending or one not below N; no ids are a set (request F-1)
     refuse 2 when not (isSet N ids) else
     -- 3, the record doesn't fit the rest of the file, or no index entry is free
     refuse 3 when ltb (c .lengths .records) (length (fileOf N (c .S)) + length (recordOf N ids)) || ltb (c .lengths .index) (length (c .S) + 2) else

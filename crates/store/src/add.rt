@@ -59,16 +59,13 @@ impl Cell {
         self.index < sets + 2
     }
 
-    // Refusal 12, a unitig is open; 2, ids that are no set, or none; 3, no space.
+    // Refusal 12, a unitig is open; 2, ids that are no set; 3, no space.
     fn add_test(self, colors: u32, ids: &[u32]) -> Gate
         requires { ⌜ (self .records .used ≤ self .records .length) × (badColors colors ≡ false) ⌝ }
         ensures { λ r. ⌜ r ≡ addTest colors self (now (ids .entry)) ⌝ }
     {
         if self.is_open() {
             return Gate::Refuse(Refusal::Opened);
-        }
-        if ids.len() == 0 {
-            return Gate::Refuse(Refusal::Ids);
         }
         let Written::Done(len) = codec::records::color_record_len(colors, ids) else {
             return Gate::Refuse(Refusal::Ids);

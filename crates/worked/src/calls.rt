@@ -83,7 +83,7 @@ pub(crate) fn add(
     }
 }
 
-// add NUMBER ID..
+// add NUMBER [ID..]
 pub(crate) fn add_line(
     turn: Turn,
     words: &[u8],

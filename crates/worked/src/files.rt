@@ -49,7 +49,7 @@ fn encode_in(n: u32, ids: &[u32], room: usize, space: &mut [u8]) -> Written {
     codec::records::write_color_record(n, ids, &mut space[..k])
 }
 
-// encode N ROOM ID..
+// encode N ROOM [ID..]
 pub(crate) fn encode(words: &[u8], ids: &mut Ids, space: &mut Bytes) -> Reply {
     let n = args::value_at(words, 0);
     let room = args::value_at(words, n.next);

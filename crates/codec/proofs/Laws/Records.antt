@@ -8,9 +8,10 @@ use lib.ListN.{length, take, drop, length-append, take-append-drop}
 use lib.Seq.{take-at, drop-at, length-take-le, getD-append-add}
 use lib.Dec.{leb, ltb}
 use borrow.Author.Tests.{le-leb, leb-true, ltb-true}
-use Rattle.codec.specs.Bits.{AreBytes}
-use Rattle.codec.specs.Prefix.{prefixOf, ReadLeb, whole, cut, bad, readLeb, narrow, readPrefix}
-use Rattle.codec.specs.Sets.{Within, within, encodeSet, Decoded, set, noSet, decodeSet}
+use Rattle.codec.specs.Bits.{AreBytes, lowBits, packBits, packBytes, valueOf}
+use Rattle.codec.specs.Codes.{delta, gamma, highBit, highIn}
+use Rattle.codec.specs.Prefix.{lebIn, prefixOf, ReadLeb, whole, cut, bad, readLeb, narrow, readPrefix}
+use Rattle.codec.specs.Sets.{Within, within, encodeSet, regime, setBits, Decoded, set, noSet, decodeSet}
 use Rattle.codec.specs.Records.{recordOf, fileOf, found, short, payloadSet, afterPrefix, readRecord}
 use Rattle.codec.specs.Flat.{flat, bounds}
 use Rattle.codec.specs.History.{Sets}
@@ -78,6 +79,11 @@ module _ (N : ℕ) (some : 1 ≤ N) (most : N ≤ 2 ^ 20) where
       rw (append-assoc (prefixOf n) p rest, prefix-read n (p ++ rest) (omega (arith, payload-size N s some most w)), le-leb n (length (p ++ rest)) (simp length-append (omega arith)), take-at p rest n refl, drop-at p rest n refl, decode-encode N s w)
 
 -- ---- what the promise is made of
+
+-- delta(0) alone, a one and zeros up to the byte: a payload of one byte
+pub record-empty : (N : ℕ) → recordOf N [] ≡ 0x01 ∷ 0x01 ∷ []
+unfolding recordOf prefixOf lebIn encodeSet setBits regime packBits packBytes delta gamma highBit highIn lowBits valueOf
+record-empty N = refl
 
 pub within-ids : (from top : ℕ) (xs : List ℕ) → within from top xs ≡ true → Within from top xs
 unfolding within

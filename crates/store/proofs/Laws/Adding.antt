@@ -24,7 +24,7 @@ use Rattle.codec.specs.Records.{ReadRecord, badColors, givesIds, isRecord, reco
 use Rattle.codec.specs.Records as records
 use Rattle.codec.specs.Sets.{within}
 use Rattle.runs.specs.Words.{coordinateOf, placeOf, workerOf}
-use Rattle.store.specs.Add.{addFiled, addTest, badIds, unitigOpen, noSpace, sameAdd}
+use Rattle.store.specs.Add.{addFiled, addTest, unitigOpen, noSpace, sameAdd}
 use Rattle.store.specs.Filed.{readsAs, recordStart, setAt, setFrom, setIn, unnamed}
 use Rattle.store.specs.Inside.Counts.{writtenOf}
 use Rattle.store.specs.Inside.Fits.{AddFits, AddReady}
@@ -199,33 +199,29 @@ module _ (o : Bool) (N : ℕ) (c : Cell) (ids : List ℕ) (e : o ≡ unitigOpen 
   unfolding addTest _when_else_
   test-opened h = rw (via e h)
 
-  pub test-none : o ≡ false → length ids ≡ 0 → Refuse Ids ≡ addTest N c ids
-  unfolding addTest badIds _when_else_
-  test-none h z = rw (via e h, eq-eqb _ _ z)
-
-  module _ (w : Written) (h : o ≡ false) (n : length ids ≡ 0 → ⊥) (b : badColors N ≡ false) (q : ofWritten w ≡ recordLength N ids) where
+  module _ (w : Written) (h : o ≡ false) (b : badColors N ≡ false) (q : ofWritten w ≡ recordLength N ids) where
     pub test-ids : (r : Refusal) → w ≡ written.Refused r → Refuse Ids ≡ addTest N c ids
-    unfolding addTest badIds _when_else_
-    test-ids r k = rw (via e h, ne-eqb _ _ n, unmeasured w r N ids b q k)
+    unfolding addTest _when_else_
+    test-ids r k = rw (via e h, unmeasured w r N ids b q k)
 
     pub test-space : (len : ℕ) (f : Bool) → w ≡ written.Done len → f ≡ noSpace c len → f ≡ true → Refuse Space ≡ addTest N c ids
-    unfolding addTest badIds _when_else_
+    unfolding addTest _when_else_
     test-space len f k m t =
         let d = measured w N ids len b q k in
-        rw (via e h, ne-eqb _ _ n, d .isSet, ← d .long, via m t)
+        rw (via e h, d .isSet, ← d .long, via m t)
 
     pub test-go : (len : ℕ) (f : Bool) → w ≡ written.Done len → f ≡ noSpace c len → f ≡ false → Go ≡ addTest N c ids
-    unfolding addTest badIds _when_else_
+    unfolding addTest _when_else_
     test-go len f k m t =
         let d = measured w N ids len b q k in
-        rw (via e h, ne-eqb _ _ n, d .isSet, ← d .long, via m t)
+        rw (via e h, d .isSet, ← d .long, via m t)
 
-pub ruleset adding-tests = (test-opened, test-none, test-ids, test-space, test-go)
+pub ruleset adding-tests = (test-opened, test-ids, test-space, test-go)
 
 -- ---- what is known where add may go
 
 ready : (N : ℕ) (c : Cell) (ids : List ℕ) (f n : ℕ) → AddFits N c f n → addTest N c ids ≡ Go → AddReady N c ids f n
-unfolding addTest noSpace badIds
+unfolding addTest noSpace
 ready N c ids f n a e =
     let o = refuse-go _ _ _ e in
     let i = refuse-go _ _ _ (o .1) in
@@ -237,7 +233,7 @@ ready N c ids f n a e =
     let y′ : c .index ≡ n = a .index .same in
     record {
       fits = a;
-      isSet = not-false _ (or-none (eqb (length ids) 0) _ (i .0) .1);
+      isSet = not-false _ (i .0);
       room = omega arith;
       entry = omega arith;
     }

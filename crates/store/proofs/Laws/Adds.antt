@@ -1,6 +1,7 @@
 -- An add: its tests, one record more, and what ties the two stores after an accepted one.
 use Prim.Native.Nat.{ℕ, _+_, _*_, _≤_, _<_}
 use mathlib.Core.Path.{_≡_, refl, sym, ap, _∙_}
+use mathlib.Core.Bool.{not}
 use mathlib.Core.List.{List, [], _∷_, _++_}
 use mathlib.Core.Option.{Option}
 use native.Mathlib.Omega.{arith}
@@ -23,7 +24,7 @@ use Rattle.store.specs.declared.state.Cell.{Cell}
 use Rattle.store.specs.declared.state.Current.{Current}
 use Rattle.store.specs.declared.state.Store.{Store}
 use Rattle.store.proofs.Laws.After.{cellAfter, size-kept}
-use Rattle.store.proofs.Laws.Agree.{ids-agree, set-within}
+use Rattle.store.proofs.Laws.Agree.{set-within}
 use Rattle.store.proofs.Laws.Flats.{flat-more, starts-more}
 use Rattle.store.proofs.Laws.Gates.{asVerdict, refuse-accept, refuse-both}
 use Rattle.store.proofs.Laws.Puts.{put-length, put-take}
@@ -81,7 +82,7 @@ module _ {N : ℕ} {p : PlainCell} {c : Cell} {b : CellBufs} (r : CellRep N p c 
   unfolding asVerdict addTest addTests noSpace
   add-tests-cell =
       refuse-both Opened _ _ (opens-agree (r .opened)) (λ x.
-      refuse-both Ids _ _ (ids-agree N ids) (λ y.
+      refuse-both Ids _ _ (ap not (sym (set-within N ids))) (λ y.
       refuse-both Space _ _ (rw (r .recordSize .told, r .indexSize .told, r .filed .far, r .filed .many)) (λ z. refl)))
 
   pub add-cell : (i : ℕ) → addTests N p ids ≡ accept
@@ -92,7 +93,7 @@ module _ {N : ℕ} {p : PlainCell} {c : Cell} {b : CellBufs} (r : CellRep N p c 
       let x = refuse-accept _ _ _ e in
       let y = refuse-accept _ _ _ (x .1) in
       let z = refuse-accept _ _ _ (y .1) in
-      let ok : IsSet N ids = set-within N ids (not-false _ (y .0)) in
+      let ok : IsSet N ids = sym (set-within N ids) ∙ not-false _ (y .0) in
       let fits = or-none _ _ (z .0) in
       let a : length (fileOf N (p .S)) + length (recordOf N ids) ≤ p .lengths .records = ltb-false _ _ (fits .0) in
       let d : length (p .S) + 2 ≤ p .lengths .index = ltb-false _ _ (fits .1) in

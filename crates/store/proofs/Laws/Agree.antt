@@ -1,19 +1,17 @@
 -- The plain store's tests are those of the store over its buffers.
 use Prim.Native.Nat.{ℕ, _+_}
-use mathlib.Core.Path.{_≡_, refl, sym, ap, _∙_}
-use mathlib.Core.Bool.{Bool, true, false, not, _&&_}
+use mathlib.Core.Path.{_≡_, refl}
+use mathlib.Core.Bool.{Bool, true, false, _&&_}
 use mathlib.Core.List.{List, [], _∷_, map}
 use native.Mathlib.Omega.{arith}
-use lib.ListN.{length}
 use lib.Dec.{eqb, leb, ltb}
-use borrow.Author.Tests.{eqb-true, le-leb, le-ltb, leb-false, leb-true, lt-ltb, ltb-true, ne-eqb}
-use Rattle.base.proofs.Bools.{and-right-no, false-true}
+use borrow.Author.Tests.{eqb-true, le-leb, le-ltb, leb-false, leb-true, lt-ltb, ltb-true}
+use Rattle.base.proofs.Bools.{and-right-no}
 use Rattle.codec.specs.Records.{same}
 use Rattle.codec.specs.Sets.{within}
 use Rattle.runs.specs.Colours.{starts}
 use Rattle.runs.specs.Orders.{climbs, sharp}
 use Rattle.runs.specs.Words.{coordinate, offset}
-use Rattle.store.specs.Add.{badIds}
 use Rattle.store.specs.Close.{sameWay}
 use Rattle.store.specs.Demand.{wayOf}
 use Rattle.store.specs.Join.{alike, allNamed}
@@ -40,21 +38,10 @@ unfolding ascendsFrom allBelow within
 ids-from N x [] = refl
 ids-from N x (y ∷ ys) = rw (← above x y, ← ids-from N y ys) (shuffle (ltb x y) (ascendsFrom y ys) (ltb y N) (allBelow N ys))
 
-ids-within : (N x : ℕ) (xs : List ℕ) → ascends (x ∷ xs) && allBelow N (x ∷ xs) ≡ within 0 N (x ∷ xs)
-unfolding ascends allBelow within
-ids-within N x xs = rw (le-leb 0 x (omega arith), ← ids-from N x xs) (shuffle true (ascendsFrom x xs) (ltb x N) (allBelow N xs))
-
-pub ids-agree : (N : ℕ) (ids : List ℕ) → badIds N ids ≡ not (isSet N ids)
-unfolding isSet badIds isEmpty
-ids-agree N [] = refl
-ids-agree N (x ∷ xs) =
-    let e : eqb (length (x ∷ xs)) 0 ≡ false = ne-eqb (length (x ∷ xs)) 0 (λ q. omega arith) in
-    rw (badIds, e) (ap not (sym (ids-within N x xs)))
-
-pub set-within : (N : ℕ) (ids : List ℕ) → isSet N ids ≡ true → within 0 N ids ≡ true
-unfolding isSet isEmpty
-set-within N [] e = false-true e
-set-within N (x ∷ xs) e = sym (ids-within N x xs) ∙ e
+pub set-within : (N : ℕ) (ids : List ℕ) → isSet N ids ≡ within 0 N ids
+unfolding isSet ascends allBelow within
+set-within N [] = refl
+set-within N (x ∷ xs) = rw (le-leb 0 x (omega arith), ← ids-from N x xs) (shuffle true (ascendsFrom x xs) (ltb x N) (allBelow N xs))
 
 -- ---- runs
 

@@ -4,7 +4,7 @@ use Prim.Native.Nat.{ℕ}
 use mathlib.Core.Path.{_≡_, refl}
 use mathlib.Core.Bool.{Bool, true, false}
 use mathlib.Core.List.{List, [], _∷_, _++_, map}
-use lib.ListN.{length, replicate, set}
+use lib.ListN.{replicate, set}
 use Rattle.base.specs.Answers.{Answer, done}
 use Rattle.base.specs.Answers as answer
 use Rattle.base.specs.Parts.{over}
@@ -22,7 +22,7 @@ use Rattle.runs.specs.Orders.{climbs, sharp}
 use Rattle.runs.specs.Reverse.{reverseRuns}
 use Rattle.runs.specs.Rotate.{changes, firsts, runsAt, merged, rotateRuns}
 use Rattle.runs.specs.Words.{pack}
-use Rattle.store.specs.Add.{unitigOpen, badIds, noSpace, addTest, sameAdd, addFiled, addCell, addStep}
+use Rattle.store.specs.Add.{unitigOpen, noSpace, addTest, sameAdd, addFiled, addCell, addStep}
 use Rattle.store.specs.Altered.{alteredBuffer, badVertices, badCurrent, alteredCell, alteredShared, altered}
 use Rattle.store.specs.Close.{sameWay, sameClose, filedRuns, filedBytes, countOf, closeOpen, noCloseSpace, closeTest, closeFiledOf, closeCell, closeStep}
 use Rattle.store.specs.Demand.{LentCall, updating, showing, Seen, seen, sent, outOf, asSeen, allSeen, wayOf, storeUpdate, storeStep, storeRun}
@@ -71,13 +71,15 @@ unshown k out = seen (answer.refused k) out
 abbrev shows : ℕ → List ℕ → Seen
 shows count out = seen (done (count ∷ [])) out
 
--- from a fresh store of N = 8 and W = 2 over these buffers: calls, each with what it is told
+-- from a fresh store of so many colours and W = 2 over these buffers: calls, each with what it is told
 record Case : Type 0 where
+  N : ℕ
   lent : Bufs
   rows : List (LentCall × Seen)
 
+-- of 8 colours
 abbrev over-room : Bufs → List (LentCall × Seen) → Case
-over-room b rows = record { lent = b; rows = rows }
+over-room b rows = record { N = 8; lent = b; rows = rows }
 
 -- ---- the worked case
 
@@ -103,11 +105,11 @@ worked =
     ∷ (adds 1 (5 ∷ []), refused 10)
     ∷ (adds 2 (9 ∷ []), refused 11)
     ∷ (adds 2 [], refused 11)
-    -- ids: none, one not below N, not strictly ascending; no space
-    ∷ (adds 3 [], refused 2)
+    -- ids: one not below N, not strictly ascending; no space, for the empty set either
     ∷ (adds 3 (8 ∷ []), refused 2)
     ∷ (adds 3 (4 ∷ 4 ∷ []), refused 2)
     ∷ (adds 3 (1 ∷ []), refused 3)
+    ∷ (adds 3 [], refused 3)
     -- none open; the limits of n; not sharp: no runs, first offset, not ascending, at n
     ∷ (closes 3 line, refused 13)
     ∷ (joins 3 16777216 false piece, refused 7)
@@ -149,6 +151,55 @@ left =
     bufs (0x02 ∷ 0x62 ∷ 0x01 ∷ 0x02 ∷ 0x1A ∷ 0x08 ∷ []) (0 ∷ 3 ∷ 6 ∷ []) (pack 0 2 ∷ pack 2 258 ∷ pack 3 2 ∷ []) turned
     (3 ∷ 0 ∷ 0 ∷ 0 ∷ 2 ∷ 0 ∷ 0 ∷ 0 ∷ 0 ∷ 2 ∷ 0 ∷ 0 ∷ 2 ∷ 1 ∷ 0 ∷ 0 ∷ 0 ∷ 3 ∷ 0 ∷ 0 ∷ 2 ∷ 0 ∷ 0 ∷ 0 ∷ 0 ∷ []) (0 ∷ 4 ∷ [])
 
+-- ---- the empty set
+
+-- the only set of its store: filed once, compared with other ids, no space for another, and shown into outputs of any length
+abbrev emptyAlone : ℕ → Case
+emptyAlone N =
+    record {
+      N = N;
+      lent = room 2 2 1 1 9 2;
+      rows =
+          (adds 1 [], told 2)
+          ∷ (adds 1 [], told 2)
+          ∷ (adds 1 (0 ∷ []), refused 11)
+          ∷ (adds 2 [], refused 3)
+          ∷ (joins 2 3 false (pack 0 2 ∷ []), told 3)
+          ∷ (adds 3 [], refused 12)
+          ∷ (closes 3 line, told 0)
+          ∷ (showing 0 2 [], shows 0 [])
+          ∷ (showing 0 2 (8 ∷ 8 ∷ []), shows 0 (8 ∷ 8 ∷ []))
+          ∷ (showing 0 3 [], unshown 14 [])
+          ∷ [];
+    }
+
+-- the record file 01 01 and its index 0 2
+abbrev leftAlone : Bufs
+leftAlone = bufs (0x01 ∷ 0x01 ∷ []) (0 ∷ 2 ∷ []) (pack 0 2 ∷ []) (pack 0 2 ∷ []) (1 ∷ 0 ∷ 0 ∷ 0 ∷ 2 ∷ 0 ∷ 0 ∷ 0 ∷ 0 ∷ []) (0 ∷ 3 ∷ [])
+
+-- twice, with another set between: each its own record, and no neighbour's set is shown
+abbrev emptyTwice : Case
+emptyTwice =
+    over-room (room 7 4 3 3 25 2)
+    (
+    (adds 1 [], told 2)
+    ∷ (adds 2 (5 ∷ []), told 258)
+    ∷ (adds 2 [], refused 11)
+    ∷ (adds 3 [], told 514)
+    ∷ (adds 3 [], told 514)
+    ∷ (adds 3 (5 ∷ []), refused 11)
+    ∷ (joins 4 3 false (pack 0 2 ∷ pack 1 258 ∷ pack 2 514 ∷ []), told 3)
+    ∷ (closes 5 line, told 0)
+    ∷ (showing 0 0 [], shows 0 [])
+    ∷ (showing 0 1 (8 ∷ []), shows 1 (5 ∷ []))
+    ∷ (showing 0 2 (8 ∷ []), shows 0 (8 ∷ []))
+    ∷ []
+    )
+
+-- the record file 01 01 02 62 01 01 01 and its index 0 2 5 7
+abbrev fileTwice : List ℕ × List ℕ
+fileTwice = (0x01 ∷ 0x01 ∷ 0x02 ∷ 0x62 ∷ 0x01 ∷ 0x01 ∷ 0x01 ∷ [], 0 ∷ 2 ∷ 5 ∷ 7 ∷ [])
+
 -- ---- two refusals at once: the one that stands first is answered
 
 -- two sets, then an open unitig of two vertices with one run; no more open runs or held runs fit, and no unitig
@@ -161,6 +212,9 @@ tight = room 6 3 1 1 8 0
 abbrev cases : List Case
 cases =
     worked
+    ∷ emptyAlone 8
+    ∷ emptyAlone 1
+    ∷ emptyTwice
     -- on a fresh store the number 0 is the last one too, and its call another: 10 before 11
     ∷ over-room tight ((adds 0 (5 ∷ []), refused 10) ∷ [])
     ∷ over-room tight ((joins 0 1 false (pack 0 2 ∷ []), refused 10) ∷ [])
@@ -169,10 +223,12 @@ cases =
     ∷ over-room tight (opening ++ ((adds 3 (5 ∷ []), refused 11) ∷ (adds 3 (9 ∷ []), refused 11) ∷ []))
     ∷ over-room tight (opening ++ ((adds 4 [], refused 12) ∷ (adds 4 (9 ∷ []), refused 12) ∷ (adds 4 (5 ∷ []), refused 12) ∷ (adds 5 (9 ∷ []), refused 10) ∷ []))
     -- 2 before 3: neither a byte nor an index entry is free
-    ∷ over-room (room 3 2 1 1 8 0) ((adds 1 (5 ∷ []), told 2) ∷ (adds 2 (9 ∷ []), refused 2) ∷ (adds 2 [], refused 2) ∷ (adds 2 (1 ∷ []), refused 3) ∷ [])
+    ∷ over-room (room 3 2 1 1 8 0) ((adds 1 (5 ∷ []), told 2) ∷ (adds 2 (9 ∷ []), refused 2) ∷ (adds 2 (1 ∷ []), refused 3) ∷ [])
     -- 3 by the file alone, and by the index alone
     ∷ over-room (room 2 2 1 1 8 0) ((adds 1 (5 ∷ []), refused 3) ∷ [])
     ∷ over-room (room 3 1 1 1 8 0) ((adds 1 (5 ∷ []), refused 3) ∷ [])
+    ∷ over-room (room 1 2 1 1 8 0) ((adds 1 [], refused 3) ∷ [])
+    ∷ over-room (room 2 1 1 1 8 0) ((adds 1 [], refused 3) ∷ [])
     -- join: 11 before 7 and what follows; 7 before 6, by n and by the sum
     ∷ over-room tight (opening ++ ((joins 3 0 false [], refused 11) ∷ (joins 3 2 false (pack 1 3 ∷ []), refused 11) ∷ []))
     ∷ over-room tight (opening ++ ((joins 4 0 false [], refused 7) ∷ (joins 4 16777215 false [], refused 7) ∷ (joins 5 0 false [], refused 10) ∷ []))
@@ -362,7 +418,7 @@ at x f c r = record { found = x; change = f; call = c; reply = r }
 
 -- a number out of sequence, and arguments that are turned down
 abbrev badAdd : LentCall
-badAdd = adds 9 []
+badAdd = adds 9 (9 ∷ 9 ∷ [])
 
 abbrev badJoin : LentCall
 badJoin = joins 9 0 false []
@@ -421,6 +477,11 @@ damages =
     ∷ at afterSets pastEnd (adds 2 (0 ∷ 7 ∷ [])) (refused 11)
     ∷ at afterSets (cell (held 2 last.Add 259)) (adds 2 (0 ∷ 7 ∷ [])) (refused 11)
     ∷ at afterSets (cell (held 2 last.Add 514)) (adds 2 (0 ∷ 7 ∷ [])) (refused 11)
+    -- and no ids are not what can't be read: damaged, no bytes, beyond the used end, no record
+    ∷ at afterSets (records 3 0xFF) (adds 2 []) (refused 11)
+    ∷ at afterSets (index 1 6) (adds 2 []) (refused 11)
+    ∷ at afterSets (index 1 7) (adds 2 []) (refused 11)
+    ∷ at afterSets (cell (held 2 last.Add 514)) (adds 2 []) (refused 11)
     -- a last number without a call
     ∷ at afterSets (cell (held 2 last.Fresh 258)) (adds 2 (0 ∷ 7 ∷ [])) (refused 11)
     ∷ at afterSets (cell (held 2 last.Fresh 258)) (joins 2 3 false piece) (refused 11)
@@ -482,17 +543,20 @@ callsOf c = map (λ (r : LentCall × Seen). r .0) (c .rows)
 abbrev toldBy : Case → List Seen
 toldBy c = map (λ (r : LentCall × Seen). r .1) (c .rows)
 
-abbrev begun : Bufs → Store × Bufs
-begun b = (startStep 8 2 b .1, startStep 8 2 b .2)
+abbrev runBy : ℕ → Bufs → List LentCall → List Seen × Store × Bufs
+runBy N b cs = storeRun (startStep N 2 b .1) (startStep N 2 b .2) cs
 
 abbrev byStore : Case → List Seen
-byStore c = storeRun (begun (c .lent) .0) (begun (c .lent) .1) (callsOf c) .0
+byStore c = runBy (c .N) (c .lent) (callsOf c) .0
 
 abbrev byPlain : Case → List Seen
-byPlain c = allSeen (callsOf c) (plainRun (plainFresh 8 2 (lengthsOf (c .lent))) (map sent (callsOf c)) .0)
+byPlain c = allSeen (callsOf c) (plainRun (plainFresh (c .N) 2 (lengthsOf (c .lent))) (map sent (callsOf c)) .0)
+
+abbrev leftOver : Case → Bufs
+leftOver c = runBy (c .N) (c .lent) (callsOf c) .2
 
 abbrev leftBy : Bufs → List LentCall → Store × Bufs
-leftBy b cs = (storeRun (begun b .0) (begun b .1) cs .1, storeRun (begun b .0) (begun b .1) cs .2)
+leftBy b cs = (runBy 8 b cs .1, runBy 8 b cs .2)
 
 abbrev startTold : ℕ × ℕ × Bufs × Answer → Answer
 startTold x = startStep (x .0) (x .1) (x .2) .0
@@ -510,7 +574,11 @@ keptBy d = (d .reply, d .change (d .found) .0, d .change (d .found) .1)
 pub record Cases : Type 0 where
   pub stored : map byStore cases ≡ map toldBy cases
   pub plain : map byPlain cases ≡ map toldBy cases
-  pub kept : leftBy (worked .lent) (callsOf worked) .1 ≡ left
+  pub kept : leftOver worked ≡ left
+  pub emptyKept :
+      (leftOver (emptyAlone 8) ≡ leftAlone)
+      × (leftOver (emptyAlone 1) ≡ leftAlone)
+      × (_≡_ {A = List ℕ × List ℕ} (leftOver emptyTwice .cell .records, leftOver emptyTwice .cell .index) fileTwice)
   pub started : map startTold starts ≡ map startAnswer starts
   pub found :
       (leftBy (room 6 3 3 2 17 2) setCalls ≡ afterSets)
@@ -523,7 +591,7 @@ unfolding
     _when_else_ anyOf over lowBits valueOf bitsOf packBytes packBits highIn highBit gamma delta readZeros readLow readGamma readDelta lebIn prefixOf
     readLeb readPrefix mapBits idsOf absent gapBits regime setBits encodeSet readGaps readMap readSet padding decodeSet within flat recordOf readRecord
     badColors same colours colourFrom climbs sharp reverseRuns shifted skip appendix changes firsts runsAt merged rotateRuns leBytes leValue runBytes
-    words afterCount readRuns sharpColourIn sharpColour unitigOpen badIds noSpace addTest sameAdd addFiled addCell addStep alteredBuffer badVertices
+    words afterCount readRuns sharpColourIn sharpColour unitigOpen noSpace addTest sameAdd addFiled addCell addStep alteredBuffer badVertices
     badCurrent alteredCell alteredShared altered sameWay sameClose filedRuns filedBytes countOf closeOpen noCloseSpace closeTest closeFiledOf closeCell
     closeStep sent outOf asSeen allSeen wayOf storeUpdate storeStep storeRun unnamed recordStart setIn setFrom setAt readsAs alike sameJoin openCount
     openAt openNew allNamed openTest openSpace joinTest joinFiledAt joinCell joinStep sequenceOf repeated bySequence numbered byGate plainFresh isEmpty
@@ -536,6 +604,7 @@ computed =
       stored = refl;
       plain = refl;
       kept = refl;
+      emptyKept = (refl, refl, refl);
       started = refl;
       found = (refl, refl, refl);
       damaged = refl;

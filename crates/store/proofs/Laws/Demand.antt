@@ -21,7 +21,7 @@ use Rattle.codec.specs.Records.{badColors, fileOf}
 use Rattle.codec.proofs.Promise.{IsSet, promise}
 use Rattle.runs.specs.Words.{coordinateOf, placeOf}
 use Rattle.runs.proofs.Laws.Words.{coordinate-of}
-use Rattle.store.specs.Demand.{Demand3, LentCall, LinesSent, RecordsKept, Seen, ShowsSent, UnitigsKept, acceptedFrom, allSeen, asSeen, lineRuns, outOf, seen, sent, setFor, setsIn, showing, storeRun, tableOf}
+use Rattle.store.specs.Demand.{Demand3, LentCall, LinesSent, RecordsKept, Seen, ShowsSent, UnitigsKept, acceptedFrom, allSeen, asSeen, lineRuns, outOf, recordFile, seen, sent, setFor, setsIn, showing, storeRun, tableOf}
 use Rattle.store.specs.Once.{Item, itemCall, updateOf, updatesFrom}
 use Rattle.store.specs.Plain.{Call, Plain, PlainCell, SharedLengths, Unitig, Update, Verdict, accept, accepted, coordAt, idsAt, noUnitig, noVertex, plainFresh, plainRun, plainShow, plainStep, plainUpdate, refusal, refuse, repeat, show, shown, update, verdict}
 use Rattle.store.specs.Start.{badCellLengths, badLengths, badLimits, badSharedLengths, fresh, freshCell, freshShared, noStore, startStep, tooLong, zeroed}
@@ -173,16 +173,16 @@ given p k v out values e =
       left = rw (o .0, o .1, o .2);
     }
 
-shows-plain : (q : Plain) (k v : ℕ) (out : List ℕ) → asSeen (plainStep q (sent (showing k v out)) .0) (outOf (showing k v out)) ≡ asSeen (plainShow q k v (length out)) out
+pub shows-plain : (q : Plain) (k v : ℕ) (out : List ℕ) → asSeen (plainStep q (sent (showing k v out)) .0) (outOf (showing k v out)) ≡ asSeen (plainShow q k v (length out)) out
 unfolding plainStep sent outOf
 shows-plain q k v out = refl
 
 -- ---- what is filed
 
-records-kept : {N : ℕ} {p : PlainCell} {c : Cell} {b : CellBufs} → badColors N ≡ false → CellRep N p c b → RecordsKept N (p .S) c b
+pub records-kept : {N : ℕ} {p : PlainCell} {c : Cell} {b : CellBufs} → badColors N ≡ false → CellRep N p c b → RecordsKept N (p .S) c b
 records-kept {N} {p} {c} {b} limits r =
     let f = r .filed in
-    let bytes : take (c .records .used) (b .records) ≡ fileOf N (p .S) = ap (λ (n : ℕ). take n (b .records)) (f .far) ∙ f .bytes in
+    let bytes : recordFile c b ≡ fileOf N (p .S) = ap (λ (n : ℕ). take n (b .records)) (f .far) ∙ f .bytes in
     record {
       file = bytes;
       count = f .many;
@@ -201,13 +201,13 @@ module _ (N W : ℕ) (b : Bufs) (x : badLimits N W ≡ false) (y : badLengths (l
   p₀ = plainFresh N W (lengthsOf b)
 
   -- what the store leaves of a list of calls, and what the plain store
-  abbrev left : List LentCall → List Seen × Store × Bufs
+  abbrev pub left : List LentCall → List Seen × Store × Bufs
   left cs = storeRun (fresh N W (lengthsOf b)) (zeroed b) cs
 
-  abbrev plain : List LentCall → Plain
+  abbrev pub plain : List LentCall → Plain
   plain cs = plainRun p₀ (map sent cs) .1
 
-  ran : (cs : List LentCall) → Ran cs (left cs) (plainRun p₀ (map sent cs))
+  pub ran : (cs : List LentCall) → Ran cs (left cs) (plainRun p₀ (map sent cs))
   ran cs = run-ok (fresh-ok N W b x y) cs
 
   accepted-are : (cs : List LentCall) → acceptedFrom 0 cs (left cs .0) ≡ acc p₀ cs
@@ -230,7 +230,7 @@ module _ (N W : ℕ) (b : Bufs) (x : badLimits N W ≡ false) (y : badLengths (l
     sets-are : plain calls .cell .S ≡ setsIn (acceptedFrom 0 calls (left calls .0))
     sets-are = all-sets ∙ ap setsIn (sym (accepted-are calls))
 
-    colors-are : plain calls .N ≡ N
+    pub colors-are : plain calls .N ≡ N
     unfolding plainFresh
     colors-are = kept p₀ (map sent calls) .0
 
@@ -238,27 +238,27 @@ module _ (N W : ℕ) (b : Bufs) (x : badLimits N W ≡ false) (y : badLengths (l
     pub each-set : All (IsSet N) (setsIn (acceptedFrom 0 calls (left calls .0)))
     each-set = rw (colors-are, sets-are) at (ran calls .rep .cell .filed .each)
 
-    -- the set that the first accepted add with this vertex's coordinate sent
-    sent-set : (early late : List LentCall) (k v : ℕ) (out : List ℕ) → calls ≡ early ++ (showing k v out ∷ late) → k < length (plain early .closed) → v < length (getD (plain early .closed) k noUnitig .coords)
-        → setFor (coordAt (plain early) k v) (acc p₀ calls) ≡ some (idsAt (plain early) k v)
+    -- the set that the first accepted add with this vertex's coordinate sent; no later call changes it
+    pub sent-set : (early late : List LentCall) (k v : ℕ) → calls ≡ early ++ late → k < length (plain early .closed) → v < length (getD (plain early .closed) k noUnitig .coords)
+        → setFor (coordAt (plain early) k v) (acceptedFrom 0 calls (left calls .0)) ≡ some (idsAt (plain early) k v)
     unfolding plainFresh coordAt idsAt
-    sent-set early late k v out e h l =
+    sent-set early late k v e h l =
         let q : Plain = plain early in
         let r = ran early .rep in
         let coord : ℕ = getD (getD (q .closed) k noUnitig .coords) v 0 in
         let n = name-of (getD (q .closed) k noUnitig) (good-here (named-narrow (r .cell)) (r .shared) k h) v l in
         let w : q .cell .W ≡ W = kept p₀ (map sent early) .1 in
         let c : coordinateOf W (placeOf coord) ≡ coord = ap (λ (x : ℕ). coordinateOf x (placeOf coord)) (sym (n .own ∙ w)) ∙ coordinate-of coord in
-        let more : List (List ℕ) = setsIn (acc q (showing k v out ∷ late)) in
+        let more : List (List ℕ) = setsIn (acc q late) in
         let final : setsIn (acc p₀ calls) ≡ q .cell .S ++ more =
-        sym all-sets ∙ ap (λ (cs : List LentCall). plain cs .cell .S) e ∙ ap (λ (z : Plain). z .cell .S) (run-append p₀ early (showing k v out ∷ late)) ∙ sets-run q (showing k v out ∷ late)
+        sym all-sets ∙ ap (λ (cs : List LentCall). plain cs .cell .S) e ∙ ap (λ (z : Plain). z .cell .S) (run-append p₀ early late) ∙ sets-run q late
         in
         let m : placeOf coord < length (setsIn (acc p₀ calls)) = omega (arith, n .low, ap length final, length-append (q .cell .S) more) in
         let x : setFor (coordinateOf W (0 + placeOf coord)) (acc p₀ calls) ≡ some (getD (setsIn (acc p₀ calls)) (placeOf coord) []) = first-run p₀ calls (placeOf coord) m in
         let y : getD (setsIn (acc p₀ calls)) (placeOf coord) [] ≡ getD (q .cell .S) (placeOf coord) [] =
         ap (λ (z : List (List ℕ)). getD z (placeOf coord) []) final ∙ List·getD-append (q .cell .S) more [] (placeOf coord) (n .low)
         in
-        ap (λ (z : ℕ). setFor z (acc p₀ calls)) (sym c ∙ ap (coordinateOf W) (sym (zero-add (placeOf coord)))) ∙ x ∙ ap some y
+        ap (setFor coord) (accepted-are calls) ∙ ap (λ (z : ℕ). setFor z (acc p₀ calls)) (sym c ∙ ap (coordinateOf W) (sym (zero-add (placeOf coord)))) ∙ x ∙ ap some y
 
     shows : ShowsSent N W (lengthsOf b) calls (left calls .0)
     shows early k v out late values e a =
@@ -271,7 +271,7 @@ module _ (N W : ℕ) (b : Bufs) (x : badLimits N W ≡ false) (y : badLengths (l
         in
         let d = given q k v out values (sym (ap (λ (x : Seen). x .answer) at) ∙ a) in (
           idsAt q k v,
-          ap (setFor (coordAt q k v)) (accepted-are calls) ∙ sent-set early late k v out e (d .unitig) (d .vertex),
+          sent-set early (showing k v out ∷ late) k v e (d .unitig) (d .vertex),
           d .many,
           ap (λ (x : Seen). x .out) at ∙ d .left,
         )

@@ -9,9 +9,6 @@ is-open-requires c κs = search needs
 returns : tie.Need-returns
 returns c = search adding-tests
 
-returns-2 : tie.Need-returns-2
-returns-2 c = search adding-tests
-
 color-record-len-requires : tie.Need-color-record-len-requires
 color-record-len-requires c κs = search needs
 
@@ -21,17 +18,17 @@ enum-known-len c = search needs
 enum-told : tie.Need-enum-told
 enum-told c = search needs
 
-returns-3 : tie.Need-returns-3
-returns-3 c = search adding-tests
+returns-2 : tie.Need-returns-2
+returns-2 c = search adding-tests
 
 no-space-requires : tie.Need-no-space-requires
 no-space-requires c κs = search needs
 
+returns-3 : tie.Need-returns-3
+returns-3 c = search adding-tests
+
 returns-4 : tie.Need-returns-4
 returns-4 c = search adding-tests
-
-returns-5 : tie.Need-returns-5
-returns-5 c = search adding-tests
 
 pub add-test-spec : {M : Type 1} → statement M
 add-test-spec =
@@ -39,11 +36,10 @@ add-test-spec =
     (tie.spec
     is-open-requires
     returns
-    returns-2
     color-record-len-requires
     enum-known-len
     enum-told
-    returns-3
+    returns-2
     no-space-requires
-    returns-4
-    returns-5)
+    returns-3
+    returns-4)
