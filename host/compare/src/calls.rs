@@ -169,8 +169,11 @@ impl Random {
         Way::Cycle { pivot }
     }
 
-    /// Ids to add, seldom such as are refused.
+    /// Ids to add: none in a tenth of the calls, seldom such as are refused.
     fn set_of(&mut self, n: u32) -> Deed {
+        if self.rarely(10) {
+            return Deed::Add { ids: Vec::new() };
+        }
         let mut ids = if n > 1000 {
             let mut ids: Vec<u32> = (0..self.between(1, 12))
                 .map(|_| self.below(u64::from(n)) as u32)
@@ -190,11 +193,10 @@ impl Random {
         };
         let place = self.below(ids.len() as u64) as usize;
         match self.below(60) {
-            0 => ids.clear(),
-            1 => ids.insert(place, ids[place]),
-            2 => ids.reverse(),
-            3 => ids.push(n),
-            4 => ids.push(self.pick(&[n + 1, n + 255, u32::MAX])),
+            0 => ids.insert(place, ids[place]),
+            1 => ids.reverse(),
+            2 => ids.push(n),
+            3 => ids.push(self.pick(&[n + 1, n + 255, u32::MAX])),
             _ => {}
         }
         Deed::Add { ids }
@@ -273,13 +275,15 @@ impl Random {
     fn changed(&mut self, deed: &Deed, plain: &Plain) -> Deed {
         let mut deed = deed.clone();
         match &mut deed {
-            Deed::Add { ids } => match self.below(5) {
+            Deed::Add { ids } if ids.is_empty() => ids.push(self.pick(&[0, plain.n])),
+            Deed::Add { ids } => match self.below(6) {
                 0 => ids[0] ^= 1,
                 1 => {
                     ids.pop();
                 }
                 2 => ids.push(plain.n),
                 3 => ids.reverse(),
+                4 => ids.clear(),
                 _ => return Deed::Close(self.way(1)),
             },
             Deed::Join { n, reverse, runs } => match self.below(6) {
@@ -333,7 +337,7 @@ impl Random {
         let named = coordinates[vertex as usize];
         let ids = plain.sets[(named / 256) as usize].len();
         let room = match self.below(10) {
-            0 => ids - 1,
+            0 => ids.saturating_sub(1),
             1 => 0,
             2 => ids + 3,
             _ => ids,

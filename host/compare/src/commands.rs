@@ -8,7 +8,7 @@ use model::store::{Buffers, Current, State};
 /// What the program says of a refusal, by its number less one.
 const REASONS: [&str; 15] = [
     "colour count or worker outside its limits",
-    "ids missing, not strictly ascending, or not below the colour count",
+    "ids not strictly ascending, or not below the colour count",
     "not enough space",
     "input ends too early",
     "not a written form",

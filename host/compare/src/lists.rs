@@ -113,28 +113,32 @@ pub struct History {
 }
 
 impl List {
+    /// The ids of each add, and whether it was accepted.
+    pub fn adds(&self) -> impl Iterator<Item = (&Vec<u32>, bool)> {
+        let calls = self.calls.iter().zip(&self.accepted);
+        calls.filter_map(|(call, &accepted)| match call {
+            Call::Numbered {
+                deed: Deed::Add { ids },
+                ..
+            } => Some((ids, accepted)),
+            _ => None,
+        })
+    }
+
     /// Where the start was accepted.
     pub fn history(&self) -> Option<History> {
         let used = self.started.ok()?.used.records as usize;
-        let sets = self.calls.iter().zip(&self.accepted);
+        let accepted = self.adds().filter(|&(_, accepted)| accepted);
         Some(History {
             n: self.n,
             records: self.buffers.records[..used].to_vec(),
-            sets: sets
-                .filter_map(|(call, &accepted)| match call {
-                    Call::Numbered {
-                        deed: Deed::Add { ids },
-                        ..
-                    } if accepted => Some(ids.clone()),
-                    _ => None,
-                })
-                .collect(),
+            sets: accepted.map(|(ids, _)| ids.clone()).collect(),
         })
     }
 }
 
-/// What a run of lists should reach beside every refusal: the bounds from within.
-pub const BOUNDS: [&str; 9] = [
+/// What a run of lists should reach beside every refusal: the bounds from within, and what becomes of empty sets.
+pub const REACHED: [&str; 13] = [
     "record file full",
     "index full",
     "open runs full",
@@ -144,14 +148,19 @@ pub const BOUNDS: [&str; 9] = [
     "most vertices",
     "128 runs",
     "most colours",
+    "empty set filed",
+    "empty set sent again",
+    "empty set's number with other ids",
+    "empty set shown into no places",
 ];
 
 impl List {
-    /// Which of the bounds this list reached.
-    pub fn bounds(&self) -> [bool; 9] {
+    /// Which of these this list reached.
+    pub fn reached(&self) -> [bool; REACHED.len()] {
         let Ok(state) = self.started else {
-            return [false; 9];
+            return [false; REACHED.len()];
         };
+        let [filed, again, other, shown] = self.empty_sets();
         let (used, lengths) = (state.used, self.lengths);
         let most_vertices = Ok(Answer::Value(u64::from(MAX_VERTICES)));
         let counts = &self.buffers.table[..2 * used.unitigs as usize];
@@ -172,7 +181,36 @@ impl List {
             // From there on the count takes two bytes.
             bytes.max().is_some_and(|most| most >= 2 + 8 * 128),
             used.sets > 0 && self.n == MAX_COLORS,
+            filed,
+            again,
+            other,
+            shown,
         ]
+    }
+
+    /// What became of empty sets: filed, sent again, their number sent with other ids, shown into an output of no places.
+    fn empty_sets(&self) -> [bool; 4] {
+        let [mut filed, mut again, mut other, mut shown] = [false; 4];
+        // The number of the last accepted call, where that added the empty set.
+        let mut last = None;
+        for ((call, told), &accepted) in self.calls.iter().zip(&self.told).zip(&self.accepted) {
+            match call {
+                Call::Show { room, .. } => {
+                    shown |= *room == 0 && *told == Ok(Answer::Ids(Vec::new()));
+                }
+                Call::Numbered { number, deed } => {
+                    let empty = *deed == Deed::Add { ids: Vec::new() };
+                    if accepted {
+                        filed |= empty;
+                        last = empty.then_some(*number);
+                    } else if last == Some(*number) {
+                        again |= empty;
+                        other |= *told == Err(Clause::OtherArguments);
+                    }
+                }
+            }
+        }
+        [filed, again, other, shown]
     }
 }
 

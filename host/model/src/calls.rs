@@ -73,7 +73,6 @@ impl Lengths {
 pub enum Clause {
     Colors,
     Worker,
-    NoIds,
     NotAscending,
     NotBelow,
     NoIndexEntry,
@@ -111,7 +110,7 @@ impl Clause {
     pub fn number(self) -> u32 {
         match self {
             Clause::Colors | Clause::Worker => 1,
-            Clause::NoIds | Clause::NotAscending | Clause::NotBelow => 2,
+            Clause::NotAscending | Clause::NotBelow => 2,
             Clause::NoIndexEntry
             | Clause::LongBuffer
             | Clause::RecordFile

@@ -154,9 +154,6 @@ impl Plain {
         if self.open.is_some() {
             return Err(Clause::Opened);
         }
-        if ids.is_empty() {
-            return Err(Clause::NoIds);
-        }
         limit_ids(self.n, ids).map_err(|why| match why {
             Why::NotAscending => Clause::NotAscending,
             _ => Clause::NotBelow,

@@ -239,9 +239,6 @@ impl State {
         if self.current != Current::Nothing {
             return Err(Clause::Opened);
         }
-        if ids.is_empty() {
-            return Err(Clause::NoIds);
-        }
         match limit_ids(self.n, ids) {
             Ok(()) => {}
             Err(Why::NotAscending) => return Err(Clause::NotAscending),

@@ -145,10 +145,36 @@ fn order_of_add() {
     both.refuses(add(3, &[9]), 11);
     both.refuses(add(4, &[9]), 12);
     both.answers(close(4, Way::Line), 0);
-    both.refuses(add(5, &[]), 2);
     both.refuses(add(5, &[8]), 2);
     both.refuses(add(5, &[1, 1]), 2);
     both.refuses(add(5, &[1]), 3);
+    both.refuses(add(5, &[]), 3);
+}
+
+#[test]
+fn the_empty_set_is_filed_and_shown() {
+    let mut both = Both::new(Lengths {
+        records: 7,
+        index: 4,
+        ..LENGTHS
+    });
+    both.answers(add(1, &[]), 2);
+    both.answers(add(1, &[]), 2);
+    both.refuses(add(1, &[0]), 11);
+    both.answers(add(2, &[5]), 258);
+    both.refuses(add(2, &[]), 11);
+    both.answers(add(3, &[]), 514);
+    both.refuses(add(4, &[]), 3);
+    let file = [0x01, 0x01, 0x02, 0x62, 0x01, 0x01, 0x01];
+    assert_eq!(both.buffers.records, file);
+    assert_eq!(both.buffers.index, [0, 2, 5, 7]);
+    both.answers(join(4, 3, false, &[(0, 2), (1, 258), (2, 514)]), 3);
+    both.refuses(add(5, &[]), 12);
+    both.answers(close(5, Way::Line), 0);
+    both.shows(show(0, 0, 0), &[]);
+    both.refuses(show(0, 1, 0), 3);
+    both.shows(show(0, 1, 1), &[5]);
+    both.shows(show(0, 2, 3), &[]);
 }
 
 #[test]
@@ -351,9 +377,10 @@ fn altered_state_comes_first() {
 fn altered_repeats() {
     let both = with_sets(LENGTHS);
     let again = || add(2, &[0, 7]);
-    let alterations: [fn(&mut State, &mut Buffers); 8] = [
+    let alterations: [fn(&mut State, &mut Buffers); 9] = [
         |_, b| b.records[3] = 0x80,
         |_, b| b.records[4] = 0xFF,
+        |_, b| b.index[1] = 6,
         |_, b| b.index[1] = 7,
         |_, b| b.index[1] = u64::MAX,
         |s, _| s.used.records = 5,
@@ -363,6 +390,8 @@ fn altered_repeats() {
     ];
     for alter in alterations {
         assert_eq!(altered(&both, again(), alter), 11);
+        // What can't be read is not the empty set.
+        assert_eq!(altered(&both, add(2, &[]), alter), 11);
     }
     let mut both = both;
     both.answers(join(3, 3, false, &[(0, 2), (2, 258)]), 3);

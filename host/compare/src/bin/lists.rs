@@ -3,10 +3,10 @@
 //! built. Every line that a program answers is compared with the model's. SEED begins the lists (1): the same two numbers repeat
 //! the same run. The stores of one colour count are then compared, each with each: the record bytes of the one are the beginning
 //! of the other's exactly when its accepted sets are. Exits with 1 where an answer or such a pair differs, or where a refusal that
-//! calls can reach, or a bound, was not met, as far fewer calls may not.
+//! calls can reach, a bound, or what can become of an empty set, was not met, as far fewer calls may not.
 
 use compare::commands::{Line, lines_of};
-use compare::lists::{BOUNDS, History, List, Told};
+use compare::lists::{History, List, REACHED, Told};
 use compare::random::Random;
 use compare::run::grouped;
 use compare::sessions::{MOST_BYTES, Session, session_of};
@@ -49,10 +49,7 @@ fn reachable() -> Vec<(&'static str, Clause)> {
         all.extend(clauses.iter().map(|&clause| (operation, clause)));
     };
     more("start", &[Colors, Worker, NoIndexEntry]);
-    more(
-        "add",
-        &[Opened, NoIds, NotAscending, NotBelow, RecordFile, Index],
-    );
+    more("add", &[Opened, NotAscending, NotBelow, RecordFile, Index]);
     more("join", &[NoVertices, ManyVertices, NotSharp, OtherWorker]);
     more("join", &[NoSet, Junction, OpenRuns, HeldPiece]);
     more("close", &[NoneOpen, RunFile, Table]);
@@ -282,7 +279,8 @@ fn main() {
     let mut commands = Feed::default();
     let mut sessions: Vec<Feed> = Vec::new();
     let (mut lists, mut made) = (0, 0);
-    let mut bounds = [0; BOUNDS.len()];
+    let mut reached = [0; REACHED.len()];
+    let (mut adds, mut empty) = (0, 0);
     let mut histories = Vec::new();
     while made < calls || lists < LARGEST {
         let shape = if lists < LARGEST {
@@ -297,8 +295,12 @@ fn main() {
         for difference in &list.differences {
             models.fail(|| format!("models, list {lists}, {difference}"));
         }
-        for (count, reached) in bounds.iter_mut().zip(list.bounds()) {
-            *count += u64::from(reached);
+        for (count, here) in reached.iter_mut().zip(list.reached()) {
+            *count += u64::from(here);
+        }
+        for (ids, _) in list.adds() {
+            adds += 1;
+            empty += u64::from(ids.is_empty());
         }
         histories.extend(list.history());
         let counted = counted_of(&list);
@@ -357,8 +359,13 @@ fn main() {
     }
     println!("answers that agree, by operation:");
     print_counts(&tallies[0].counts);
-    println!("lists that reach a bound:");
-    for (name, &count) in BOUNDS.iter().zip(&bounds) {
+    println!(
+        "adds: {}, of the empty set {}",
+        grouped(adds),
+        grouped(empty)
+    );
+    println!("lists that reach a bound, or hold a call on an empty set:");
+    for (name, &count) in REACHED.iter().zip(&reached) {
         println!("  {name}: {}", grouped(count));
         if count == 0 {
             println!("FAILED: no list has {name}");
