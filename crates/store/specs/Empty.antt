@@ -46,6 +46,7 @@ pub record EmptySet (p : Plain) (accepted : List (ℕ × Update)) (s : Store) (b
       (unitig vertex : ℕ) (out : List ℕ) → noVertex p unitig vertex ≡ false → setFor (coordAt p unitig vertex) accepted ≡ some []
       → storeStep s b (showing unitig vertex out) .0 ≡ seen (done (0 ∷ [])) out
 
+-- by what a list of calls leaves: the plain store after it, the calls accepted in it, the store and its buffers
 abbrev pub EmptySetAfter : (N W : ℕ) → Bufs → List LentCall → List Seen × Store × Bufs → Type 0
 EmptySetAfter N W b calls r = EmptySet (plainRun (plainFresh N W (lengthsOf b)) (map sent calls) .1) (acceptedFrom 0 calls (r .0)) (r .1) (r .2)
 

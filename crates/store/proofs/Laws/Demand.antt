@@ -207,12 +207,12 @@ module _ (N W : ℕ) (b : Bufs) (x : badLimits N W ≡ false) (y : badLengths (l
   abbrev pub plain : List LentCall → Plain
   plain cs = plainRun p₀ (map sent cs) .1
 
-  pub ran : (cs : List LentCall) → Ran cs (left cs) (plainRun p₀ (map sent cs))
-  ran cs = run-ok (fresh-ok N W b x y) cs
+  pub runs-agree : (cs : List LentCall) → Ran cs (left cs) (plainRun p₀ (map sent cs))
+  runs-agree cs = run-ok (fresh-ok N W b x y) cs
 
   accepted-are : (cs : List LentCall) → acceptedFrom 0 cs (left cs .0) ≡ acc p₀ cs
   unfolding plainFresh
-  accepted-are cs = ap (acceptedFrom 0 cs) (ran cs .answers)
+  accepted-are cs = ap (acceptedFrom 0 cs) (runs-agree cs .answers)
 
   -- losses, repeats and calls out of turn change nothing
   pub once-fresh : (updates : ℕ → Update) (items : List Item)
@@ -220,7 +220,7 @@ module _ (N W : ℕ) (b : Bufs) (x : badLimits N W ≡ false) (y : badLengths (l
   unfolding plainFresh
   once-fresh updates items =
       let o = once-run updates items p₀ in
-      rw (accepted-are (map (itemCall updates) items), ran (map (itemCall updates) items) .rep .cell .last, o .sum, zero-add (o .m)) (o .those)
+      rw (accepted-are (map (itemCall updates) items), runs-agree (map (itemCall updates) items) .rep .cell .last, o .sum, zero-add (o .m)) (o .those)
 
   module _ (calls : List LentCall) where
     all-sets : plain calls .cell .S ≡ setsIn (acc p₀ calls)
@@ -230,13 +230,13 @@ module _ (N W : ℕ) (b : Bufs) (x : badLimits N W ≡ false) (y : badLengths (l
     sets-are : plain calls .cell .S ≡ setsIn (acceptedFrom 0 calls (left calls .0))
     sets-are = all-sets ∙ ap setsIn (sym (accepted-are calls))
 
-    pub colors-are : plain calls .N ≡ N
+    colors-are : plain calls .N ≡ N
     unfolding plainFresh
     colors-are = kept p₀ (map sent calls) .0
 
     -- each accepted set is one of N colours
     pub each-set : All (IsSet N) (setsIn (acceptedFrom 0 calls (left calls .0)))
-    each-set = rw (colors-are, sets-are) at (ran calls .rep .cell .filed .each)
+    each-set = rw (colors-are, sets-are) at (runs-agree calls .rep .cell .filed .each)
 
     -- the set that the first accepted add with this vertex's coordinate sent; no later call changes it
     pub sent-set : (early late : List LentCall) (k v : ℕ) → calls ≡ early ++ late → k < length (plain early .closed) → v < length (getD (plain early .closed) k noUnitig .coords)
@@ -244,7 +244,7 @@ module _ (N W : ℕ) (b : Bufs) (x : badLimits N W ≡ false) (y : badLengths (l
     unfolding plainFresh coordAt idsAt
     sent-set early late k v e h l =
         let q : Plain = plain early in
-        let r = ran early .rep in
+        let r = runs-agree early .rep in
         let coord : ℕ = getD (getD (q .closed) k noUnitig .coords) v 0 in
         let n = name-of (getD (q .closed) k noUnitig) (good-here (named-narrow (r .cell)) (r .shared) k h) v l in
         let w : q .cell .W ≡ W = kept p₀ (map sent early) .1 in
@@ -264,7 +264,7 @@ module _ (N W : ℕ) (b : Bufs) (x : badLimits N W ≡ false) (y : badLengths (l
     shows early k v out late values e a =
         let q : Plain = plain early in
         let at : getD (left calls .0) (length early) (seen (refused 0) []) ≡ asSeen (plainShow q k v (length out)) out =
-        ap (λ (xs : List Seen). getD xs (length early) (seen (refused 0) [])) (ran calls .answers)
+        ap (λ (xs : List Seen). getD xs (length early) (seen (refused 0) [])) (runs-agree calls .answers)
         ∙ ap (λ (cs : List LentCall). getD (allSeen cs (plainRun p₀ (map sent cs) .0)) (length early) (seen (refused 0) [])) e
         ∙ reply-at p₀ early (showing k v out) late (seen (refused 0) [])
         ∙ shows-plain q k v out
@@ -279,7 +279,7 @@ module _ (N W : ℕ) (b : Bufs) (x : badLimits N W ≡ false) (y : badLengths (l
     lines : LinesSent (acceptedFrom 0 calls (left calls .0)) (left calls .1 .shared) (left calls .2 .shared)
     unfolding plainFresh startsOf
     lines k count e =
-        let r = ran calls .rep in
+        let r = runs-agree calls .rep in
         let d = lined-run (fresh-ok N W b x y) calls in
         let q : plain calls .closed ≡ d .more = d .are in
         let h = d .counts k count (ap (λ (us : List (ℕ × Update)). getD (lineRuns none us) k none) (sym (accepted-are calls)) ∙ e) in
@@ -293,9 +293,9 @@ module _ (N W : ℕ) (b : Bufs) (x : badLimits N W ≡ false) (y : badLengths (l
 
     pub demand-fresh : Demand3 N W (lengthsOf b) calls (left calls)
     demand-fresh =
-        let r = ran calls .rep in
+        let r = runs-agree calls .rep in
         record {
-          answers = ran calls .answers;
+          answers = runs-agree calls .answers;
           shows = shows;
           records = rw (colors-are, sets-are) at (records-kept (r .limits) (r .cell));
           unitigs = unitigs-kept (r .shared);

@@ -19,7 +19,7 @@ use Rattle.store.specs.Plain.{Plain, Reply, Update, accept, accepted, ad
 use Rattle.store.specs.Start.{badLengths, badLimits}
 use Rattle.store.specs.State.{Bufs, lengthsOf}
 use Rattle.store.specs.declared.state.Store.{Store}
-use Rattle.store.proofs.Laws.Demand.{began, left, plain, ran, records-kept, sent-set, shows-plain}
+use Rattle.store.proofs.Laws.Demand.{began, left, plain, records-kept, runs-agree, sent-set, shows-plain}
 use Rattle.store.proofs.Laws.Flats.{flat-more}
 use Rattle.store.proofs.Laws.Rep.{Rep}
 use Rattle.store.proofs.Laws.Trace.{step-ok}
@@ -34,13 +34,13 @@ next-number p u =
     let n : p .cell .last + 1 ≡ p .cell .last → ⊥ = λ e. omega arith in
     rw (ne-eqb _ _ z, ne-eqb _ _ n, eq-eqb (p .cell .last + 1) _ refl)
 
--- what such an add is told and leaves, by the two tests
-by-tests : (t f : Bool) (p : Plain) (i : ℕ) (u : Update)
+-- what a call is told, by the two tests that can refuse such an add
+told-by : (t f : Bool) (p : Plain) (i : ℕ) (u : Update)
     → plainUpdate (_when_else_ (refuse 12) t (_when_else_ (refuse 3) f accept)) p i u .0 ≡ _when_else_ (refusal 12) t (_when_else_ (refusal 3) f (answer (effect p u .0)))
 unfolding plainUpdate _when_else_
-by-tests true f p i u = refl
-by-tests false true p i u = refl
-by-tests false false p i u = refl
+told-by true f p i u = refl
+told-by false true p i u = refl
+told-by false false p i u = refl
 
 module _ (p : Plain) where
   empty-tests : verdict p (p .cell .last + 1) (add []) ≡ _when_else_ (refuse 12) (isOpen (p .cell .current)) (_when_else_ (refuse 3) (noSpaceForEmpty p) accept)
@@ -49,7 +49,7 @@ module _ (p : Plain) where
 
   empty-told : plainStep p (sent (emptyAdd p)) .0 ≡ emptyReply p
   unfolding plainStep sent effect emptyReply
-  empty-told = rw (empty-tests) (by-tests (isOpen (p .cell .current)) (noSpaceForEmpty p) p (p .cell .last + 1) (add []))
+  empty-told = rw empty-tests (told-by (isOpen (p .cell .current)) (noSpaceForEmpty p) p (p .cell .last + 1) (add []))
 
   empty-taken : isOpen (p .cell .current) ≡ false → noSpaceForEmpty p ≡ false → plainStep p (sent (emptyAdd p)) .1 ≡ accepted p (p .cell .last + 1) (add []) (effect p (add []))
   unfolding plainStep plainUpdate sent _when_else_
@@ -75,7 +75,7 @@ module _ (N W : ℕ) (b : Bufs) (x : badLimits N W ≡ false) (y : badLengths (l
   unfolding noVertex outOf
   empty-fresh =
       let p : Plain = plain N W b x y calls in
-      let r = ran N W b x y calls .rep in
+      let r = runs-agree N W b x y calls .rep in
       record {
         added = step-ok r (emptyAdd p) .same ∙ ap (λ (a : Reply). asSeen a (outOf (emptyAdd p))) (empty-told p);
         filed = λ o f. files-it (p .cell .last + 1) r (rw (empty-taken p o f) at (step-ok r (emptyAdd p) .rep));
