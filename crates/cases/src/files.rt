@@ -4,7 +4,7 @@
 use libc::STDOUT_FILENO;
 
 // What two files show.
-#[derive(Drop)]
+#[derive(Clone, Copy)]
 enum Pair {
     // Of one colour count: the one is the beginning of the other in bytes and in sets, in neither, or in one of them alone.
     Beginning,
@@ -16,7 +16,7 @@ enum Pair {
 }
 
 // How many pairs there were of one colour count, and of each kind worth telling.
-#[derive(Drop)]
+#[derive(Clone, Copy)]
 struct Seen {
     pairs: u64,
     beginnings: u64,

@@ -9,7 +9,7 @@ ghost use Rattle.io.specs.Counts.{IsPrefixLen};
 use libc::STDOUT_FILENO;
 
 // The head of a line: what is called, with which numbers, how many places of output are lent, and the answer.
-#[derive(Drop)]
+#[derive(Clone, Copy)]
 struct Call {
     operation: u64,
     first: u64,
@@ -23,7 +23,7 @@ struct Call {
 }
 
 // How many numbers a line has, and where the next line begins.
-#[derive(Drop)]
+#[derive(Clone, Copy)]
 struct Line {
     count: usize,
     next: usize,

@@ -11,7 +11,7 @@ use crate::bits::BitWriter;
 use crate::gaps::Checked;
 
 // A chunk of the bitmap, and how many ids of the set are passed behind it.
-#[derive(Drop)]
+#[derive(Clone, Copy)]
 pub(crate) struct MapChunk {
     pub(crate) word: u64,
     pub(crate) next: usize,

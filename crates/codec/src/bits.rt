@@ -108,7 +108,7 @@ pub(crate) fn bits_at(bytes: &[u8], at: usize, b: usize) -> u64
 
 // A writer of bits over a lent buffer: `at` whole bytes are written, and the low `pending` bits of
 // `acc` wait.
-#[derive(Drop)]
+#[derive(Clone, Copy)]
 pub(crate) struct BitWriter {
     pub(crate) at: usize,
     pub(crate) acc: u64,

@@ -9,7 +9,7 @@ ghost use Rattle.codec.specs.Inside.Writers.{Ready, Wrote, CodewordOf, SplitOf};
 use crate::bits::BitWriter;
 
 // A value and the bit place behind its code, or that none is there that a set needs.
-#[derive(Drop)]
+#[derive(Clone, Copy)]
 pub(crate) enum ReadCode {
     Value { value: u32, next: usize },
     Missing,
@@ -34,7 +34,7 @@ pub(crate) fn low_at(bytes: &[u8], at: usize, b: usize) -> ReadCode
 }
 
 // How many zeros stand before a one, or that the bits end first.
-#[derive(Drop)]
+#[derive(Clone, Copy)]
 pub(crate) enum Zeros {
     Count(usize),
     End,
@@ -73,7 +73,7 @@ pub(crate) fn delta_at(bytes: &[u8], at: usize) -> ReadCode
 }
 
 // A code at the low end of a number: its value and its count of bits, or that none is seen.
-#[derive(Drop)]
+#[derive(Clone, Copy)]
 pub(crate) enum Coded {
     Code { value: u32, count: usize },
     Unseen,
@@ -160,14 +160,14 @@ pub(crate) fn read_delta(bytes: &[u8], at: usize) -> ReadCode
 }
 
 // A code as a number and its count of bits, lowest first.
-#[derive(Drop)]
+#[derive(Clone, Copy)]
 pub(crate) struct Codeword {
     pub(crate) value: u64,
     pub(crate) count: u32,
 }
 
 // The place of a number's highest set bit, and the number without that bit.
-#[derive(Drop)]
+#[derive(Clone, Copy)]
 pub(crate) struct Split {
     pub(crate) bit: u32,
     pub(crate) low: u64,

@@ -10,13 +10,13 @@ use crate::bits::BitWriter;
 use crate::codes::ReadCode;
 
 // A place in the ids to code: `i` ids of the set are passed, and the next coded id is `from` or more.
-#[derive(Drop)]
+#[derive(Clone, Copy)]
 pub(crate) struct Cursor {
     pub(crate) i: usize,
     pub(crate) from: u32,
 }
 
-#[derive(Drop)]
+#[derive(Clone, Copy)]
 pub(crate) enum NextId {
     Id { id: u32, next: Cursor },
     End,
@@ -190,7 +190,7 @@ pub(crate) fn write_dense(out: &mut [u8], w: BitWriter, ids: &[u32], n: u32) -> 
 }
 
 // What a test of bits finds: the place behind them, or that they are not there.
-#[derive(Drop)]
+#[derive(Clone, Copy)]
 pub(crate) enum Checked {
     Good { next: usize },
     Bad,

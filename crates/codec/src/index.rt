@@ -9,7 +9,7 @@ use crate::prefix::Prefix;
 use base::{Made, Refusal};
 
 // The place behind a record, or why none is there.
-#[derive(Drop)]
+#[derive(Clone, Copy)]
 enum Step {
     Next(usize),
     Refused(Refusal),

@@ -8,7 +8,7 @@ ghost use Rattle.codec.specs.Inside.Prefixes.{last_of};
 use base::{Refusal, Written};
 
 // A number and the count of its bytes, or why none is there.
-#[derive(Drop)]
+#[derive(Clone, Copy)]
 pub enum Prefix {
     Whole { value: u32, len: usize },
     Refused(Refusal),

@@ -40,7 +40,7 @@ pub(crate) fn is_ascending(ids: &[u32], n: u32) -> bool
 }
 
 // How a set of `len` ids is written.
-#[derive(Drop)]
+#[derive(Clone, Copy)]
 pub(crate) enum Kind {
     Empty,
     Sparse,
@@ -109,7 +109,7 @@ pub(crate) fn encode_source_set(out: &mut [u8], n: u32, ids: &[u32]) -> usize
 
 // The number of ids that a payload holds and the bit place behind that number, or that it is the
 // payload of no set.
-#[derive(Drop)]
+#[derive(Clone, Copy)]
 pub(crate) enum Payload {
     Ids { count: usize, at: usize },
     NoIds,

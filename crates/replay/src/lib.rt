@@ -12,7 +12,7 @@ use store::state::{Answer, Store, Told, Way};
 
 // A call: 0 adds ids, 1 joins a piece of b vertices, reversed where c is not 0, 2 closes a line, 3 a cycle with pivot b, each with
 // number a; anything else shows vertex b of unitig a. `from` and `count` say which ids or runs; a show takes `count` places of the output.
-#[derive(Drop)]
+#[derive(Clone, Copy)]
 pub struct Head {
     pub kind: u32,
     pub a: u32,
@@ -23,14 +23,14 @@ pub struct Head {
 }
 
 // From a place up to an end.
-#[derive(Drop)]
+#[derive(Clone, Copy)]
 pub struct Span {
     pub from: usize,
     pub end: usize,
 }
 
 // What is told of a call: a refusal's number or 0, and the answer or 0.
-#[derive(Drop)]
+#[derive(Clone, Copy)]
 pub struct Noted {
     pub store: Store,
     pub refusal: u32,
@@ -38,7 +38,7 @@ pub struct Noted {
 }
 
 // What a session leaves: the state after its last call, or a refused start with the state that it hands back.
-#[derive(Drop)]
+#[derive(Clone, Copy)]
 pub struct Finished {
     pub store: Store,
     pub answer: Made,

@@ -8,7 +8,7 @@ use shell::reasons::Fault;
 use shell::{classes, commands, fields, texts};
 
 // Where the input stands.
-#[derive(Drop)]
+#[derive(Clone, Copy)]
 pub struct InputState {
     // the line that is read: its number, its bytes so far, and whether they are all
     pub number: u64,
@@ -105,7 +105,7 @@ pub(crate) fn fetch(p: InputState, input: &mut IoBuffer) -> InputState {
 }
 
 // What a line asks for. The words of the five calls, of encode and of decode are read when they are done.
-#[derive(Drop)]
+#[derive(Clone, Copy)]
 pub enum Action {
     Start,
     Add,
@@ -119,7 +119,7 @@ pub enum Action {
 }
 
 // A action, and from where to where its words stand.
-#[derive(Drop)]
+#[derive(Clone, Copy)]
 pub struct Order {
     pub action: Action,
     pub from: usize,

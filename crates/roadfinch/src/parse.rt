@@ -7,14 +7,14 @@ use shell::{fields, lists};
 use store::state::Way;
 
 // A number, and how many ids stand behind it.
-#[derive(Drop)]
+#[derive(Clone, Copy)]
 pub enum Numbered {
     Done { number: u32, count: usize },
     Wrong(Fault),
 }
 
 // A number, a vertex count, a direction, and how many runs stand behind them.
-#[derive(Drop)]
+#[derive(Clone, Copy)]
 pub enum Piece {
     Done {
         number: u32,
@@ -26,14 +26,14 @@ pub enum Piece {
 }
 
 // A number and a way to close.
-#[derive(Drop)]
+#[derive(Clone, Copy)]
 pub enum Closing {
     Done { number: u32, way: Way },
     Wrong(Fault),
 }
 
 // A vertex of a unitig, and how many ids there is room for.
-#[derive(Drop)]
+#[derive(Clone, Copy)]
 pub enum Vertex {
     Done {
         unitig: u32,
@@ -44,21 +44,21 @@ pub enum Vertex {
 }
 
 // The one word that ends a line.
-#[derive(Drop)]
+#[derive(Clone, Copy)]
 pub enum LastWord {
     At { start: usize, end: usize },
     Wrong(Fault),
 }
 
 // A number, and where its word ends.
-#[derive(Drop)]
+#[derive(Clone, Copy)]
 pub enum NumberAt {
     At { value: u32, next: usize },
     Wrong(Fault),
 }
 
 // One of two words, and where it ends.
-#[derive(Drop)]
+#[derive(Clone, Copy)]
 pub enum Choice {
     First(usize),
     Second(usize),

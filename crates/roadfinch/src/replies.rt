@@ -32,7 +32,7 @@ pub(crate) fn unstarted() -> Store {
     }
 }
 
-#[derive(Drop)]
+#[derive(Clone, Copy)]
 pub enum Reply {
     // No answer: the line isn't whole yet, or has no word.
     Nothing,
@@ -49,7 +49,7 @@ pub enum Reply {
 }
 
 // The state after a line, and its reply.
-#[derive(Drop)]
+#[derive(Clone, Copy)]
 pub struct Outcome {
     pub store: Store,
     pub reply: Reply,

@@ -11,7 +11,7 @@ use crate::{orders, reverse, words};
 use base::Refusal;
 
 // How many runs and vertices the output has now.
-#[derive(Drop)]
+#[derive(Clone, Copy)]
 pub enum Appended {
     Done { runs: usize, vertices: u32 },
     Refused(Refusal),

@@ -18,7 +18,7 @@ use base::{Given, Refusal, Written};
 use codec::prefix::Prefix;
 
 // The coordinate of a vertex.
-#[derive(Drop)]
+#[derive(Clone, Copy)]
 pub enum Colored {
     At(u64),
     Refused(Refusal),

@@ -12,7 +12,7 @@ use base::{Refusal, Written};
 
 // Two rounds over the runs make a turned cycle: the first gives the vertices from the pivot on, the second those before it. Step j is run j
 // of the first round, or run j - m of the second, and gives vertices of one colour.
-#[derive(Drop)]
+#[derive(Clone, Copy)]
 pub(crate) struct Part {
     pub begin: u32,
     pub end: u32,

@@ -8,7 +8,7 @@ ghost use Rattle.runs.specs.Inside.Swap.{Swapped, Backed, FourFit, put_four};
 use crate::words;
 
 // Four runs that stand side by side: they are read and written together, which takes less time than one by one.
-#[derive(Drop)]
+#[derive(Clone, Copy)]
 pub(crate) struct Four {
     pub one: u64,
     pub two: u64,
@@ -17,7 +17,7 @@ pub(crate) struct Four {
 }
 
 // How far swapping is: `done` runs at each end are in place, and `behind` stood behind the run that comes next.
-#[derive(Drop)]
+#[derive(Clone, Copy)]
 pub(crate) struct Ends {
     pub done: usize,
     pub behind: u64,

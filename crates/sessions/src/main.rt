@@ -15,7 +15,7 @@ use shell::lists::Listed;
 use shell::{classes, fields, lists};
 
 // How many numbers the lines of a session have, and where the next session begins.
-#[derive(Drop)]
+#[derive(Clone, Copy)]
 pub struct Counts {
     pub calls: usize,
     pub ids: usize,

@@ -2,7 +2,7 @@
 ghost use Rattle.std.specs.Prelude.{◌≡◌, ◌+◌, drop};
 ghost use Rattle.shell.specs.Classes.{is_blank, stops, span};
 
-#[derive(Drop)]
+#[derive(Clone, Copy)]
 pub enum Class {
     // A space, a tab or a carriage return.
     Blank,

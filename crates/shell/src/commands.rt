@@ -4,7 +4,7 @@ ghost use Rattle.shell.specs.Commands.{other_of, view_of, command_of};
 
 use crate::fields::same;
 
-#[derive(Drop)]
+#[derive(Clone, Copy)]
 pub enum Command {
     Start,
     Add,

@@ -6,7 +6,7 @@ use crate::classes;
 use crate::classes::Class;
 
 // The next word: from `start` up to `end`.
-#[derive(Drop)]
+#[derive(Clone, Copy)]
 pub enum Field {
     At { start: usize, end: usize },
     Nothing,

@@ -2,7 +2,7 @@
 ghost use Rattle.std.specs.Prelude.{◌≡◌};
 ghost use Rattle.shell.specs.Hexes.{digit_of, unhex_at};
 
-#[derive(Drop)]
+#[derive(Clone, Copy)]
 pub enum Hexed {
     Done(usize),
     // Something that is no digit, or a digit left over.

@@ -8,7 +8,7 @@ use crate::reasons::Fault;
 use crate::{fields, numbers, pairs};
 
 // The next word of a line.
-#[derive(Drop)]
+#[derive(Clone, Copy)]
 pub enum Item {
     Value { value: u64, next: usize },
     Wrong(Fault),
@@ -16,7 +16,7 @@ pub enum Item {
 }
 
 // What the words up to the end of a line gave.
-#[derive(Drop)]
+#[derive(Clone, Copy)]
 pub enum Listed {
     Done(usize),
     Wrong(Fault),

@@ -7,7 +7,7 @@ use crate::texts::put;
 use base::Refusal;
 
 // What is wrong with a line that cannot be read.
-#[derive(Drop)]
+#[derive(Clone, Copy)]
 pub enum Fault {
     Unknown,
     Missing,

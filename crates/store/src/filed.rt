@@ -9,7 +9,7 @@ ghost use Rattle.store.specs.Inside.Places.{of_placed};
 use crate::state::Cell;
 
 // Where a record begins, if there is one.
-#[derive(Drop)]
+#[derive(Clone, Copy)]
 pub enum Placed {
     At(usize),
     Nowhere,

@@ -6,7 +6,7 @@ use crate::state::Cell;
 use base::Refusal;
 
 // What the tests of a numbered call find, before anything is written.
-#[derive(Drop)]
+#[derive(Clone, Copy)]
 pub enum Gate {
     Refuse(Refusal),
     Again(u64),
@@ -14,7 +14,7 @@ pub enum Gate {
 }
 
 // Where a call's number stands: out of sequence, at the last accepted one, or at the next.
-#[derive(Drop)]
+#[derive(Clone, Copy)]
 pub enum Sequence {
     Out,
     Repeat,

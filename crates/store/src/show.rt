@@ -15,7 +15,7 @@ use base::{Given, Refusal};
 use runs::bytes::Colored;
 
 // A refusal, or where the record lies that is to be shown.
-#[derive(Drop)]
+#[derive(Clone, Copy)]
 pub enum Seek {
     Fail(Refusal),
     Record(usize),

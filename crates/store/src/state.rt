@@ -5,28 +5,28 @@ ghost use Rattle.store.specs.State.{after, with_unitig, in_store, in_store_close
 use base::{Made, Refusal};
 
 // How long a buffer was at start and how much of it is used, in its own elements.
-#[derive(Drop)]
+#[derive(Clone, Copy)]
 pub struct Extent {
     pub length: usize,
     pub used: usize,
 }
 
 // The open unitig: none, or one of so many vertices.
-#[derive(Drop)]
+#[derive(Clone, Copy)]
 pub enum Current {
     Nothing,
     Open(u32),
 }
 
 // How a unitig is closed.
-#[derive(Drop)]
+#[derive(Clone, Copy)]
 pub enum Way {
     Line,
     Cycle { pivot: u32 },
 }
 
 // The last accepted call with its arguments, but for the ids of an add and the runs of a join.
-#[derive(Drop)]
+#[derive(Clone, Copy)]
 pub enum Last {
     Fresh,
     Add,
@@ -35,7 +35,7 @@ pub enum Last {
 }
 
 // What one reading cell has sent: its record file with the index, its open unitig, its last accepted call.
-#[derive(Drop)]
+#[derive(Clone, Copy)]
 pub struct Cell {
     pub worker: u32,
     pub records: Extent,
@@ -52,7 +52,7 @@ pub struct Cell {
 }
 
 // The closed unitigs.
-#[derive(Drop)]
+#[derive(Clone, Copy)]
 pub struct Shared {
     pub runs: Extent,
     // the unitig table: its length; it has two numbers for each unitig
@@ -60,42 +60,42 @@ pub struct Shared {
     pub unitigs: u32,
 }
 
-#[derive(Drop)]
+#[derive(Clone, Copy)]
 pub struct Store {
     pub colors: u32,
     pub cell: Cell,
     pub shared: Shared,
 }
 
-#[derive(Drop)]
+#[derive(Clone, Copy)]
 pub enum Answer {
     Done(u64),
     Refused(Refusal),
 }
 
 // The state handed back beside the answer.
-#[derive(Drop)]
+#[derive(Clone, Copy)]
 pub struct Told {
     pub store: Store,
     pub answer: Answer,
 }
 
 // A refused start hands back a state that every call turns down with 15.
-#[derive(Drop)]
+#[derive(Clone, Copy)]
 pub struct Started {
     pub store: Store,
     pub answer: Made,
 }
 
 // What a cell's add and join hand back.
-#[derive(Drop)]
+#[derive(Clone, Copy)]
 pub struct CellTold {
     pub cell: Cell,
     pub answer: Answer,
 }
 
 // What a cell's close hands back.
-#[derive(Drop)]
+#[derive(Clone, Copy)]
 pub struct ClosedTold {
     pub cell: Cell,
     pub shared: Shared,

@@ -6,7 +6,7 @@ use shell::lists::{Item, Listed};
 use shell::{fields, lists};
 
 // A value, and where its word ends.
-#[derive(Drop)]
+#[derive(Clone, Copy)]
 pub struct Next {
     pub value: u64,
     pub next: usize,

@@ -2,7 +2,7 @@
 use base::Refusal;
 use store::state::{Answer, Cell, Current, Extent, Last, Shared, Store};
 
-#[derive(Drop)]
+#[derive(Clone, Copy)]
 pub enum Reply {
     // Nothing to tell of.
     Nothing,
@@ -62,7 +62,7 @@ pub enum Reply {
 }
 
 // How much of each buffer is lent.
-#[derive(Drop)]
+#[derive(Clone, Copy)]
 pub struct Lens {
     pub records: usize,
     pub index: usize,
@@ -72,7 +72,7 @@ pub struct Lens {
     pub table: usize,
 }
 
-#[derive(Drop)]
+#[derive(Clone, Copy)]
 pub struct Turn {
     pub store: Store,
     pub lens: Lens,
