@@ -1,6 +1,8 @@
 // Replays recorded answers: each line of the file `answers` is a call and what it must answer. data/README.md describes a line.
 // Then compares record files: each line of the file `files` is one.
 // Nothing is proved of the answers here, only that the program is safe and ends; what it prints is compared with `stdout`.
+#![tactic(auto)]
+
 mod files; // which record file is the beginning of which
 
 ghost use Rattle.std.specs.Prelude.{◌≡◌, length};

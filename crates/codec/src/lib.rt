@@ -1,4 +1,6 @@
 // Sets of strain numbers as bits, bytes and record files.
+#![tactic(auto)]
+
 mod bits; // bits of a byte slice, and a writer of bits
 mod bitmap; // a set as one bit for each id
 mod codes; // Elias gamma and delta codes

@@ -1,4 +1,6 @@
 // Runs a list of calls, six numbers each, through the store's methods: demand 3 of running code.
+#![tactic(auto)]
+
 ghost use Rattle.std.specs.Prelude.{◌≡◌, ◌+◌, ◌-◌, ◌*◌, ◌<◌, ◌≤◌, min, length, take, drop};
 ghost use Rattle.store.specs.Plain.{add, join};
 ghost use Rattle.store.specs.State.{bufs, of_answer};

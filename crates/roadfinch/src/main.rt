@@ -1,5 +1,7 @@
 // Commands on standard input, a line each; answers on standard output. What is filed and read back is the libraries' work: this program
 // takes lines apart, calls, and prints. Nothing that a line holds ends it.
+#![tactic(auto)]
+
 mod buffers; // the memory of a run
 mod lines; // input to lines, lines to orders
 mod replies; // what a line is answered

@@ -1,4 +1,6 @@
 // Runs of colours along a unitig, as lists of packed words and as bytes.
+#![tactic(auto)]
+
 pub mod words; // a run as one number of 64 bits
 pub mod orders; // steady and sharp lists
 pub mod reverse; // a list from the other end

@@ -2,6 +2,8 @@
 // six buffers; the calls, six numbers each (crates/replay says which); the ids; the runs, each OFFSET:COORDINATE. Every buffer, and the
 // output of the shows, begins as 165s. What is answered is 'start CODE', a line for each call with its refusal (or 0) and its answer, and what the
 // output and the six buffers hold, each up to its last place that is not 165. What doesn't fit is left out: the answers then differ.
+#![tactic(auto)]
+
 mod buffers; // the memory of a run
 mod say; // answers into the output buffer
 

@@ -1,4 +1,6 @@
 // Commands as text: words, numbers and bytes read from a line, and answers written into a buffer. Nothing here reads or writes a file.
+#![tactic(auto)]
+
 pub mod classes; // kinds of bytes
 pub mod fields; // the words of a line
 pub mod numbers; // decimal numbers

@@ -1,4 +1,6 @@
 // The numbered store: sets are added, pieces of unitigs joined and closed, and a vertex's set is shown.
+#![tactic(auto)]
+
 pub mod state; // the state, and what the calls answer
 mod start; // a fresh store
 mod altered; // 15, which every later call tests first

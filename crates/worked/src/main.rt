@@ -1,5 +1,7 @@
 // Worked cases: a line of standard input is WHAT: STEP; STEP; .. and is answered by WHAT and the answer of its last step. README.md describes a step.
 // The store and its buffers stay from line to line, until a step begins anew.
+#![tactic(auto)]
+
 mod buffers; // the memory of a run
 mod replies; // what a step answers
 mod compare; // whether something stayed as it was

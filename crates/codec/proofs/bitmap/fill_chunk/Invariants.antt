@@ -1,0 +1,23 @@
+-- `bitmap::fill_chunk` meets its contract.
+use Prim.Native.Nat.{ℕ, suc, ◌*◌, ◌%◌, ◌≤◌, ◌-◌, ◌<◌, ◌+◌, ◌^◌}
+use mathlib.Core.Path.{◌≡◌, refl, sym, ap, ◌∙◌}
+use mathlib.Core.List.{List, [], ◌++◌, ◌∷◌, append_assoc, append-nil}
+use native.Mathlib.Omega.{arith}
+use borrow.Author.Rules.{rules}
+use lib.ListN.{length, take, set, length-set, length-append}
+use lib.Pow.{pow_pos}
+use lib.Count.{count_trailing_zeros}
+use Rattle.base.specs.Parts.{over}
+use Rattle.codec.specs.Bits.{low_bits}
+use Rattle.codec.specs.Sets.{ids_of}
+use Rattle.codec.proofs.Laws.Filled.{over_start, over_next}
+use Rattle.codec.proofs.Laws.Low.{one_shl}
+use Rattle.codec.proofs.Laws.Chunks.{Lowest, lowest, low_none}
+use Rattle.codec.proofs.bitmap.fill_chunk.Given as goal
+
+abbrev pub invariant-loop-left : goal.invariant-loop-left
+invariant-loop-left l = (l.left < 2 ^ l.width) × (length l.out ≡ length l.initial.out)
+    × ((ys : List ℕ) × (ids_of l.base (low_bits l.width l.word) ≡ ys ++ ids_of l.base (low_bits l.width l.left)) × (l.at ≡ l.k + length ys) × (l.out ≡ over (take l.k l.initial.out ++ ys) l.initial.out))
+
+abbrev pub decreases-loop-left : goal.decreases-loop-left
+decreases-loop-left l = l.left

@@ -1,0 +1,67 @@
+use Prim.Native.Nat.{ℕ, ◌≤◌, ◌-◌, ◌+◌}
+use mathlib.Core.Path.{◌≡◌, refl, sym, ap, ◌∙◌}
+use mathlib.Core.Bool.{Bool}
+use mathlib.Core.List.{List, ◌++◌}
+use native.Mathlib.Omega.{arith}
+use borrow.Author.Rules.{rules}
+use lib.ListN.{length, take, drop, length-append, length-drop}
+use lib.Seq.{drop-drop}
+use Rattle.base.specs.Parts.{over}
+use Rattle.codec.specs.Bits.{bits_of, low_bits, value_of}
+use Rattle.codec.specs.Sets.{ids_of}
+use Rattle.codec.proofs.Laws.Low.{length_bits}
+use Rattle.codec.proofs.Laws.Filled.{over_none, over_more, long_more, same_more}
+use Rattle.codec.proofs.Laws.Chunks.{ids_chunk, chunk_low, ids_part}
+use Rattle.codec.proofs.bitmap.fill_map.Goals as goal
+
+-- what a chunk adds
+record Added (bits : List Bool) (base width word k n room : ℕ) : Type 0 where
+  pub ids : ids_of 0 (take (base + width) bits) ≡ ids_of 0 (take base bits) ++ ids_of base (low_bits width word)
+  pub fits : k + length (ids_of base (low_bits width word)) ≤ room
+
+add : (bits : List Bool) (base width word k n room : ℕ) → base + width ≤ n → n ≤ length bits → word ≡ value_of (take width (drop base bits)) → length (ids_of 0 (take n bits)) ≤ room → length (ids_of 0 (take base bits)) ≡ k
+    → Added bits base width word k n room
+add bits base width word k n room f h w r e =
+    let i : ids_of 0 (take (base + width) bits) ≡ ids_of 0 (take base bits) ++ ids_of base (low_bits width word) =
+    ids_chunk bits base width (omega arith) ∙ ap (λ (b : List Bool). ids_of 0 (take base bits) ++ ids_of base b) (sym (chunk_low bits base width (omega arith) word w))
+    in
+    record { ids = i; fits = omega (arith, ids_part bits (base + width) n f h, ap length i, length-append (ids_of 0 (take base bits)) (ids_of base (low_bits width word))) }
+
+pub loop-base-init : goal.loop-base-init
+unfolding ids_of
+loop-base-init c = (omega arith, refl, refl, sym (over_none c.args.out.now))
+
+pub fill_chunk-k-requires : goal.fill_chunk-k-requires
+fill_chunk-k-requires c =
+    let added : Added (drop c.args.at (bits_of c.args.bytes.now)) c.loop-base.base c.chunk_width-width.result c.bits_at-word.result
+    c.loop-base.k c.args.n (length c.args.out.now) = let bits : List Bool = bits_of c.args.bytes.now in
+    add (drop c.args.at bits) c.loop-base.base c.chunk_width-width.result c.bits_at-word.result c.loop-base.k c.args.n (length c.args.out.now)
+    (omega arith)
+    (simp length-drop (omega (arith, length_bits c.args.bytes.now)))
+    (c.bits_at-word.ensures.0 ∙ ap (λ (b : List Bool). value_of (take c.chunk_width-width.result b)) (sym (drop-drop c.loop-base.base c.args.at bits)))
+    c.requires.bytes_in_bounds
+    c.loop-base.invariant.2 in
+    record { width_bound = search rules; word_in_bounds = omega (arith, (added).fits) }
+
+pub loop-base-preserved : goal.loop-base-preserved
+loop-base-preserved c =
+    let added : Added (drop c.args.at (bits_of c.args.bytes.now)) c.loop-base.base c.chunk_width-width.result c.bits_at-word.result
+    c.loop-base.k c.args.n (length c.args.out.now) = let bits : List Bool = bits_of c.args.bytes.now in
+    add (drop c.args.at bits) c.loop-base.base c.chunk_width-width.result c.bits_at-word.result c.loop-base.k c.args.n (length c.args.out.now)
+    (omega arith)
+    (simp length-drop (omega (arith, length_bits c.args.bytes.now)))
+    (c.bits_at-word.ensures.0 ∙ ap (λ (b : List Bool). value_of (take c.chunk_width-width.result b)) (sym (drop-drop c.loop-base.base c.args.at bits)))
+    c.requires.bytes_in_bounds
+    c.loop-base.invariant.2 in
+    let a = added in
+    let old : List ℕ = c.args.out.now in (
+      omega arith,
+      same_more old c.loop-base.out _ _ _ c.loop-base.k c.loop-base.invariant.2 c.loop-base.invariant.3 c.fill_chunk-k.ensures.1 a.fits,
+      ap length a.ids ∙ long_more old c.loop-base.out _ _ _ c.loop-base.k c.loop-base.invariant.2 c.loop-base.invariant.3 c.fill_chunk-k.ensures.1 ∙ sym c.fill_chunk-k.ensures.0,
+      over_more old c.loop-base.out _ _ _ c.loop-base.k c.loop-base.invariant.2 c.loop-base.invariant.3 c.fill_chunk-k.ensures.1 ∙ ap (λ (x : List ℕ). over x old) (sym a.ids),
+    )
+
+pub returns : goal.returns
+returns c =
+    let e : c.loop-base.base ≡ c.args.n = omega arith in
+    c.loop-base.invariant.3 ∙ ap (λ (k : ℕ). over (ids_of 0 (take k (drop c.args.at (bits_of c.args.bytes.now)))) c.args.out.now) e

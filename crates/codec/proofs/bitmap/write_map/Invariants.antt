@@ -1,0 +1,18 @@
+-- `codec::bitmap::write_map` meets its contract. The loop's invariant: the bits below `base` are written.
+use Prim.Native.Nat.{◌+◌, ◌-◌}
+use mathlib.Core.Path.{sym, subst}
+use mathlib.Core.Bool.{Bool}
+use mathlib.Core.List.{List, [], ◌++◌}
+use native.Mathlib.Omega.{arith}
+use lib.ListN.{length}
+use Rattle.codec.specs.Bits.{low_bits}
+use Rattle.codec.specs.Inside.Writers.{Wrote}
+use Rattle.codec.proofs.Laws.Bitmaps.{Mapping, mapping_start, mapping_next, mapping_end, mapping_count}
+use Rattle.codec.proofs.Laws.Writers.{wrote_none, wrote_then, ready_after}
+use Rattle.codec.proofs.bitmap.write_map.Given as goal
+
+abbrev pub invariant-loop-base : goal.invariant-loop-base
+invariant-loop-base l = (done : List Bool) × Mapping l.n l.ids l.i l.base done × Wrote l.initial.out l.out l.initial.written l.written done
+
+abbrev pub decreases-loop-base : goal.decreases-loop-base
+decreases-loop-base l = l.n - l.base

@@ -1,0 +1,19 @@
+-- `codec::finish` meets its contract.
+use Prim.Native.Nat.{ℕ, ◌+◌, ◌-◌, ◌*◌, ◌%◌, ◌^◌, ◌≤◌, ◌<◌}
+use mathlib.Core.Path.{◌≡◌, refl, sym, ap, ap₂, ◌∙◌, subst}
+use mathlib.Core.List.{List, ◌++◌}
+use native.Mathlib.Omega.{arith}
+use borrow.Author.Rules.{rules}
+use lib.ListN.{length, take, drop, set, length-set, take-append-drop}
+use lib.Seq.{drop-set-lt, drop-drop, length-take-le}
+use lib.Pow.{shr_lt}
+use Rattle.codec.specs.Bits.{bits_of, low_bits, pack_bits, AreBytes}
+use Rattle.codec.proofs.Laws.Bits.{flush, packed_whole, packed_part, bytes_set}
+use Rattle.codec.proofs.bits.finish.Given as goal
+
+abbrev pub invariant-loop-left : goal.invariant-loop-left
+invariant-loop-left l = (bits_of (take l.at l.out) ++ low_bits l.left l.acc ≡ bits_of (take l.initial.at l.initial.out) ++ low_bits l.initial.left l.initial.acc)
+    × (l.acc < 2 ^ l.left) × (8 * l.at + l.left ≤ 8 * length l.out) × (length l.out ≡ length l.initial.out) × AreBytes l.out × (drop l.at l.out ≡ drop l.at l.initial.out)
+
+abbrev pub decreases-loop-left : goal.decreases-loop-left
+decreases-loop-left l = l.left

@@ -1,0 +1,24 @@
+-- `codec::next_delta` meets its contract.
+use Prim.Native.Nat.{ℕ, ◌-◌, ◌*◌, ◌/◌, ◌%◌, ◌^◌}
+use mathlib.Core.Path.{◌≡◌, subst}
+use native.Mathlib.Omega.{arith}
+use Rattle.codec.specs.Inside.Windows.{CodedIn}
+use Rattle.codec.specs.declared.codes.Coded.TheVariants.{Code}
+use Rattle.codec.proofs.Laws.Windows.{word_window, window_found}
+use borrow.Author.Rules.{rules}
+use Rattle.codec.proofs.codes.next_delta.Goals as goal
+
+-- what the window shows, its bit place counted from the window's
+code : (c : goal.In-Code) → CodedIn (c.word_at.result / 2 ^ (c.args.at - 8 * (c.args.at / 8))) (Code c.in-Code.value c.in-Code.count)
+code c =
+    let at : ℕ = c.args.at in
+    let p : at % 8 ≡ at - 8 * (at / 8) = omega arith in
+    subst (λ (i : ℕ). CodedIn (c.word_at.result / 2 ^ i) (Code c.in-Code.value c.in-Code.count)) p (subst (CodedIn (c.word_at.result / 2 ^ (at % 8))) c.in-Code.is c.delta_of.ensures)
+
+pub overflow_add-result : goal.overflow_add-result
+overflow_add-result c = omega (arith, (code c).1)
+
+-- src/codes.rt:131:1
+pub returns : goal.returns
+returns c =
+    window_found c.args.bytes.now (c.args.at / 8) c.args.at c.word_at.result (word_window _ c.word_at.result _ c.word_at.ensures) _ _ (code c) (omega arith) (omega (arith, (code c).1)) (omega (arith, (code c).1))

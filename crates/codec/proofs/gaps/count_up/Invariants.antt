@@ -1,0 +1,14 @@
+-- `gaps::count_up` meets its contract. The loop's invariant: those of the first `j` ids are counted.
+use Prim.Native.Nat.{ℕ, ◌+◌, ◌-◌, ◌≤◌}
+use mathlib.Core.Path.{◌≡◌, refl, ap, ◌∙◌}
+use native.Mathlib.Omega.{arith}
+use borrow.Author.Rules.{rules}
+use Rattle.codec.specs.Inside.Gaps.{up_in}
+use Rattle.codec.proofs.Laws.Coded.{up_next}
+use Rattle.codec.proofs.gaps.count_up.Given as goal
+
+abbrev pub invariant-loop-j : goal.invariant-loop-j
+invariant-loop-j l = (l.j ≤ 8) × (l.count ≡ up_in l.ids l.i l.from l.j) × (l.count ≤ l.j)
+
+abbrev pub decreases-loop-j : goal.decreases-loop-j
+decreases-loop-j l = 8 - l.j

@@ -1,0 +1,18 @@
+-- `gaps::fill_numbers` meets its contract.
+use Prim.Native.Nat.{ℕ, ◌≤◌, ◌-◌, ◌<◌, ◌+◌}
+use mathlib.Core.Path.{◌≡◌, refl, ap, ◌∙◌}
+use mathlib.Core.List.{List, [], ◌++◌, ◌∷◌}
+use native.Mathlib.Omega.{arith}
+use borrow.Author.Rules.{rules}
+use lib.ListN.{length, take, set, length-set}
+use Rattle.base.specs.Parts.{over}
+use Rattle.codec.specs.Inside.Gaps.{numbers}
+use Rattle.codec.proofs.Laws.Filled.{over_start, over_next}
+use Rattle.codec.proofs.Laws.Gaps.{length_numbers, numbers_more}
+use Rattle.codec.proofs.gaps.fill_numbers.Given as goal
+
+abbrev pub invariant-loop-id : goal.invariant-loop-id
+invariant-loop-id l = (l.from ≤ l.id) × (l.id ≤ l.to) × (length l.out ≡ length l.initial.out) × (l.out ≡ over (take l.k l.initial.out ++ numbers l.from (l.id - l.from)) l.initial.out)
+
+abbrev pub decreases-loop-id : goal.decreases-loop-id
+decreases-loop-id l = l.to - l.id

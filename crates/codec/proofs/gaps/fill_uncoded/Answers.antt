@@ -1,0 +1,86 @@
+use Prim.Native.Nat.{ℕ, ◌≤◌, ◌-◌, ◌+◌}
+use mathlib.Core.Path.{◌≡◌, refl, sym, ap, ◌∙◌, subst}
+use mathlib.Core.List.{List, [], ◌++◌, append_assoc}
+use native.Mathlib.Omega.{arith}
+use borrow.Author.Rules.{rules}
+use lib.ListN.{length, drop}
+use Rattle.base.specs.Parts.{over}
+use Rattle.codec.specs.Bits.{bits_of}
+use Rattle.codec.specs.Codes.{read_delta}
+use Rattle.codec.specs.Inside.Places.{ReadCodeAt}
+use Rattle.codec.specs.Sets.{absent, ReadIds, read_gaps}
+use Rattle.codec.specs.Inside.Gaps.{absent_from, numbers, ids_in}
+use Rattle.codec.proofs.Laws.Filled.{over_none, over_more, long_more, same_more}
+use Rattle.codec.proofs.Laws.Gaps.{Left, Turn, left_all, left_turn, left_there, left_none, turn_room, length_numbers, absent_run, absent_end, absent_all}
+use Rattle.codec.proofs.gaps.fill_uncoded.Goals as goal
+
+pub loop-i-init : goal.loop-i-init
+loop-i-init c =
+    let a = c.requires.accepted in
+    (omega arith, omega arith, refl, refl, ([], a.0, refl, sym (over_none _), ap (λ (r : ReadIds). absent c.args.top (ids_in r)) a.2 ∙ absent_all c.args.top a.0, left_all _ _ _ _ a.1 a.2))
+
+pub next_delta-requires : goal.next_delta-requires
+next_delta-requires c = record { bytes_len_bound = search rules; window = c.last_word-last.ensures }
+
+pub returns-in_default : goal.returns-in_default
+returns-in_default c =
+    left_there _ _ _ _ _ _ c.loop-i.invariant.4.5 c.loop-i-test.true c.requires.bytes_len_bound.1 (subst (ReadCodeAt read_delta c.args.bytes.now c.loop-i.place) c.in_default.is c.next_delta.ensures)
+
+turn : (c : goal.In-Value)
+    → Turn c.args.n c.loop-i.i c.loop-i.from c.args.top c.in-Value.value
+    (drop c.in-Value.next (bits_of c.args.bytes.now)) c.loop-i.invariant.4.1
+turn c =
+    let f = subst (ReadCodeAt read_delta c.args.bytes.now c.loop-i.place) c.in-Value.is c.next_delta.ensures in
+    left_turn _ _ _ _ _ _ c.loop-i.invariant.4.5 c.loop-i-test.true _ _ f.0
+
+pub overflow_add-id : goal.overflow_add-id
+overflow_add-id c = omega (arith, (turn c).below)
+
+pub fill_numbers-k-requires : goal.fill_numbers-k-requires
+fill_numbers-k-requires c =
+    let turn : Turn c.args.n c.loop-i.i c.loop-i.from c.args.top c.in-Value.value
+    (drop c.in-Value.next (bits_of c.args.bytes.now)) c.loop-i.invariant.4.1 = let f = subst (ReadCodeAt read_delta c.args.bytes.now c.loop-i.place) c.in-Value.is c.next_delta.ensures in
+    left_turn _ _ _ _ _ _ c.loop-i.invariant.4.5 c.loop-i-test.true _ _ f.0 in
+    let room : c.loop-i.from + c.in-Value.value + c.args.n ≤ c.args.top + c.loop-i.i = turn_room _ _ _ _ _ _ _ c.loop-i-test.true (turn) in
+    (omega arith, omega (arith, room))
+
+pub overflow_add-from : goal.overflow_add-from
+overflow_add-from c =
+    let turn : Turn c.args.n c.loop-i.i c.loop-i.from c.args.top c.in-Value.value
+    (drop c.in-Value.next (bits_of c.args.bytes.now)) c.loop-i.invariant.4.1 = let f = subst (ReadCodeAt read_delta c.args.bytes.now c.loop-i.place) c.in-Value.is c.next_delta.ensures in
+    left_turn _ _ _ _ _ _ c.loop-i.invariant.4.5 c.loop-i-test.true _ _ f.0 in
+    omega (arith, (turn).below)
+
+pub loop-i-preserved : goal.loop-i-preserved
+loop-i-preserved c =
+    let turn : Turn c.args.n c.loop-i.i c.loop-i.from c.args.top c.in-Value.value
+    (drop c.in-Value.next (bits_of c.args.bytes.now)) c.loop-i.invariant.4.1 = let f = subst (ReadCodeAt read_delta c.args.bytes.now c.loop-i.place) c.in-Value.is c.next_delta.ensures in
+    left_turn _ _ _ _ _ _ c.loop-i.invariant.4.5 c.loop-i-test.true _ _ f.0 in
+    let room : c.loop-i.from + c.in-Value.value + c.args.n ≤ c.args.top + c.loop-i.i = turn_room _ _ _ _ _ _ _ c.loop-i-test.true (turn) in
+    let t = turn in
+    let v = c.loop-i.invariant.4 in
+    let old : List ℕ = c.args.out.now in
+    let id : ℕ = c.loop-i.from + c.in-Value.value in
+    let new : List ℕ = numbers c.loop-i.from (id - c.loop-i.from) in
+    let n : length new ≡ id - c.loop-i.from = length_numbers (id - c.loop-i.from) c.loop-i.from in (
+      omega arith,
+      omega (arith, t.below),
+      same_more old c.loop-i.out _ v.0 new c.loop-i.k v.2 v.3 c.fill_numbers-k.ensures.1 (omega (arith, n, room)),
+      omega (arith, c.fill_numbers-k.ensures.0),
+      (
+        v.0 ++ new,
+        t.tail,
+        long_more old c.loop-i.out _ v.0 new c.loop-i.k v.2 v.3 c.fill_numbers-k.ensures.1 ∙ omega (arith, n, c.fill_numbers-k.ensures.0),
+        over_more old c.loop-i.out _ v.0 new c.loop-i.k v.2 v.3 c.fill_numbers-k.ensures.1,
+        v.4 ∙ ap (λ (y : List ℕ). v.0 ++ absent_from c.loop-i.from (c.args.top - c.loop-i.from) y) t.are ∙ ap (λ (x : List ℕ). v.0 ++ x) (absent_run c.loop-i.from c.args.top id t.tail (omega arith) t.below) ∙ sym (append_assoc v.0 new _),
+        t.later,
+      ),
+    )
+
+pub returns : goal.returns
+returns c =
+    let v = c.loop-i.invariant.4 in
+    let e : v.1 ≡ [] = left_none _ _ _ _ _ _ v.5 (omega arith) in
+    let old : List ℕ = c.args.out.now in
+    over_more old c.loop-i.out _ v.0 _ c.loop-i.k v.2 v.3 c.fill_numbers.ensures.1
+    ∙ ap (λ (x : List ℕ). over x old) (sym (v.4 ∙ ap (λ (y : List ℕ). v.0 ++ absent_from c.loop-i.from (c.args.top - c.loop-i.from) y) e ∙ ap (λ (x : List ℕ). v.0 ++ x) (absent_end (c.args.top - c.loop-i.from) c.loop-i.from)))

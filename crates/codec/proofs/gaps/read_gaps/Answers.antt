@@ -1,0 +1,64 @@
+use Prim.Native.Nat.{ℕ, ◌≤◌, ◌-◌, ◌<◌, ◌*◌, ◌+◌}
+use mathlib.Core.Path.{◌≡◌, refl, ap, ◌∙◌, subst}
+use mathlib.Core.List.{List, [], ◌∷◌, ◌++◌}
+use native.Mathlib.Omega.{arith}
+use borrow.Author.Rules.{rules}
+use lib.ListN.{length, take, drop, set, length-set, length-append}
+use Rattle.base.specs.Parts.{over}
+use Rattle.codec.specs.Bits.{bits_of}
+use Rattle.codec.specs.Codes.{read_delta}
+use Rattle.codec.specs.Inside.Places.{ReadCodeAt}
+use Rattle.codec.specs.Sets.{read_gaps}
+use Rattle.codec.specs.Inside.Gaps.{with_ids}
+use Rattle.codec.specs.declared.codes.ReadCode.TheVariants.{Value}
+use Rattle.codec.proofs.Laws.Filled.{put_none, put_set_lem}
+use Rattle.codec.proofs.Laws.Gaps.{after_nil, ahead, stuck, arrived, gaps_high, gaps_refused, put_refused, put_given}
+use Rattle.codec.proofs.gaps.read_gaps.Goals as goal
+
+whole : (n : ℕ) → n ≡ n - 0
+whole n = omega arith
+
+pub loop-i-init : goal.loop-i-init
+loop-i-init c =
+    (omega arith, omega arith, omega arith, refl, ([], refl, put_none c.args.room.now, after_nil _ ∙ ap (λ (k : ℕ). with_ids [] (read_gaps k 0 c.args.top (drop c.args.at (bits_of c.args.bytes.now)))) (whole c.args.n)))
+
+pub next_delta-requires : goal.next_delta-requires
+next_delta-requires c = record { bytes_len_bound = search rules; window = c.last_word-last.ensures }
+
+pub returns-in_default : goal.returns-in_default
+returns-in_default c =
+    let none_here = subst (ReadCodeAt read_delta c.args.bytes.now c.loop-i.place) c.in_default.is c.next_delta.ensures in
+    let e = stuck _ c.loop-i.invariant.4.0 c.args.n c.loop-i.i c.loop-i.from c.args.top _ c.loop-i-test.true c.loop-i.invariant.4.3 (gaps_refused _ _ _ _ none_here c.requires.top_bound) in
+    (e, put_refused _ _ _ e)
+
+pub returns-then-top-from : goal.returns-then-top-from
+returns-then-top-from c =
+    let found : ReadCodeAt read_delta c.args.bytes.now c.loop-i.place (Value c.in-Value.value c.in-Value.next) = subst (ReadCodeAt read_delta c.args.bytes.now c.loop-i.place) c.in-Value.is c.next_delta.ensures in
+    let f = found in
+    let e = stuck _ c.loop-i.invariant.4.0 c.args.n c.loop-i.i c.loop-i.from c.args.top _ c.loop-i-test.true c.loop-i.invariant.4.3 (gaps_high _ _ _ _ _ _ f.0 (omega arith)) in
+    (e, put_refused _ _ _ e)
+
+pub loop-i-preserved : goal.loop-i-preserved
+loop-i-preserved c =
+    let found : ReadCodeAt read_delta c.args.bytes.now c.loop-i.place (Value c.in-Value.value c.in-Value.next) = subst (ReadCodeAt read_delta c.args.bytes.now c.loop-i.place) c.in-Value.is c.next_delta.ensures in
+    let v = c.loop-i.invariant.4 in
+    let f = found in
+    let id : ℕ = c.loop-i.from + c.in-Value.value in
+    let h : id < c.args.top = omega arith in (
+      omega arith,
+      omega arith,
+      f.1,
+      ap length c.put_id.ensures ∙ length-set c.loop-i.room c.loop-i.i id ∙ c.loop-i.invariant.3,
+      (
+        v.0 ++ (id ∷ []),
+        length-append v.0 (id ∷ []) ∙ ap (λ (c«In-Value» : ℕ). c«In-Value» + 1) v.1,
+        c.put_id.ensures ∙ ap (λ (o : List ℕ). set o c.loop-i.i id) v.2 ∙ put_set_lem v.0 c.args.room.now c.loop-i.i id v.1,
+        ahead _ v.0 c.args.n c.loop-i.i c.loop-i.from c.args.top _ c.loop-i-test.true v.3 c.in-Value.value _ f.0 h,
+      ),
+    )
+
+pub returns : goal.returns
+returns c =
+    let v = c.loop-i.invariant.4 in
+    let e = arrived _ v.0 c.args.n c.loop-i.i _ _ _ (omega arith) v.3 in
+    (((v.0, e), c.loop-i.invariant.2), put_given _ v.0 _ c.args.room.now _ e v.2)

@@ -1,0 +1,11 @@
+-- `codec::passed_up` meets its contract.
+use borrow.Author.Rules.{rules}
+use Rattle.codec.proofs.records.passed_up.Goals as goal
+
+-- src/records.rt:69:1
+pub returns-in-Whole : goal.returns-in-Whole
+returns-in-Whole c = cc
+
+-- src/records.rt:69:1
+pub returns-in-Refused : goal.returns-in-Refused
+returns-in-Refused c = cc

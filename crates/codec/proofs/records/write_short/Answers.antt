@@ -1,0 +1,38 @@
+-- `records::write_short` meets its contract.
+use Prim.Native.Nat.{◌<◌}
+use native.Mathlib.Omega.{arith}
+use lib.ListN.{length-drop}
+use borrow.Author.Rules.{rules}
+use Rattle.codec.proofs.Laws.Sizes.{payload_short}
+use Rattle.base.proofs.Parts.{tail_is}
+use Rattle.codec.proofs.Laws.Encoded.{bytes_tail, short_room, short_length, short_put}
+use Rattle.codec.proofs.records.write_short.Goals as goal
+
+pub encode_source_set-len-requires : goal.encode_source_set-len-requires
+encode_source_set-len-requires c =
+    let a = c.args in
+    let out = a.out.now in record { within = (c.requires.0, omega arith, bytes_tail 1 out (λ i. (c.slice_known-1.given i).fits)); ids_in_bounds = rw (tail_is 1 out) (omega (arith, payload_short a.n a.ids.now c.requires.1 c.requires.0, length-drop 1 out)) }
+
+pub overflow_cast-out : goal.overflow_cast-out
+overflow_cast-out c =
+    let short : c.encode_source_set-len.result < 128 = omega (arith, c.encode_source_set-len.ensures.0, payload_short c.args.n c.args.ids.now c.requires.1 c.requires.0) in
+    omega (arith, short)
+
+pub bounds-out-0 : goal.bounds-out-0
+bounds-out-0 c =
+    short_room c.args.out.now c.encode_source_set-len.new.out (omega arith)
+
+pub overflow_add-result : goal.overflow_add-result
+overflow_add-result c =
+    let short : c.encode_source_set-len.result < 128 = omega (arith, c.encode_source_set-len.ensures.0, payload_short c.args.n c.args.ids.now c.requires.1 c.requires.0) in
+    omega (arith, short)
+
+pub returns : goal.returns
+returns c =
+    let short : c.encode_source_set-len.result < 128 = omega (arith, c.encode_source_set-len.ensures.0, payload_short c.args.n c.args.ids.now c.requires.1 c.requires.0) in
+    let a = c.args in
+    let r = c.encode_source_set-len.result in (
+      short_length a.n r a.ids.now c.encode_source_set-len.ensures.0 (short),
+      omega (arith, short),
+      short_put a.n r a.ids.now c.encode_source_set-len.ensures.0 (short) a.out.now c.encode_source_set-len.new.out (omega arith) c.encode_source_set-len.ensures.1,
+    )

@@ -1,0 +1,28 @@
+-- `sets::is_padding` meets its contract.
+use Prim.Native.Nat.{ℕ, ◌-◌, ◌*◌}
+use mathlib.Core.Path.{sym, ap, ◌∙◌}
+use mathlib.Core.Bool.{Bool}
+use mathlib.Core.List.{List}
+use native.Mathlib.Omega.{arith}
+use lib.ListN.{length, drop, length-drop}
+use lib.Seq.{take_all}
+use borrow.Author.Tests.{le-ltb}
+use Rattle.base.proofs.Bools.{and_left_no}
+use Rattle.codec.specs.Bits.{bits_of, value_of}
+use Rattle.codec.proofs.Laws.Low.{length_bits}
+use Rattle.codec.proofs.Laws.Decoding.{padding_test}
+use borrow.Author.Rules.{rules}
+use Rattle.codec.proofs.sets.is_padding.Goals as goal
+
+-- src/sets.rt:156:9
+pub returns-then-left-ge8 : goal.returns-then-left-ge8
+returns-then-left-ge8 c =
+    let bytes : List ℕ = c.args.payload.now in
+    sym (and_left_no _ _ (le-ltb (length (drop c.args.at (bits_of bytes))) 8 (simp length-drop (omega (arith, length_bits bytes)))))
+
+-- src/sets.rt:150:1
+pub returns : goal.returns
+returns c =
+    let bytes : List ℕ = c.args.payload.now in
+    let bits : List Bool = drop c.args.at (bits_of bytes) in
+    padding_test bits c.bits_at.result (c.bits_at.ensures.0 ∙ ap value_of (take_all (length bytes * 8 - c.args.at) bits (simp length-drop (omega (arith, length_bits bytes))))) (simp length-drop (omega (arith, length_bits bytes)))

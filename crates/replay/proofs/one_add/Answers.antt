@@ -1,0 +1,6 @@
+use borrow.Author.Rules.{rules}
+use Rattle.replay.proofs.Laws.Cases.{told_add}
+use Rattle.replay.proofs.one_add.Goals as goal
+
+pub returns : goal.returns
+returns c = search (told_add)

@@ -1,0 +1,85 @@
+-- `runs::append::append_color_runs` meets its contract.
+use Prim.Native.Nat.{◌≤◌}
+use mathlib.Core.Path.{◌≡◌, sym, ◌∙◌}
+use mathlib.Core.Bool.{true, false}
+use lib.ListN.{length, take}
+use borrow.Author.Rules.{rules}
+use borrow.Author.Tests.{not-true, not-false}
+use Rattle.base.proofs.Bools.{via}
+use Rattle.runs.specs.Orders.{sharp}
+use Rattle.runs.specs.Append.{bad_counts, joinable}
+use Rattle.runs.proofs.Laws.Orders.{taken}
+use Rattle.runs.proofs.Laws.Append.{append_3, append_7, append_6, append_66, append_goes, admitted}
+use mathlib.Core.Path.{ap}
+use mathlib.Core.Bool.{Bool}
+use mathlib.Core.Bool.{not}
+use Rattle.runs.proofs.append.append_color_runs.Goals as goal
+
+pub returns-then-out-used : goal.returns-then-out-used
+returns-then-out-used c = append_3 _ _ _ _ _ _ c.if-out-used.true
+
+pub returns-then-bad_counts : goal.returns-then-bad_counts
+returns-then-bad_counts c =
+    let out = c.args.out.now in
+    let ps = c.args.piece.now in
+    let a = c.args.out-count in
+    let n = c.args.piece-count in
+    let r = c.args.reversed in
+    let fits : c.args.used ≤ length out = c.if-out-used.false in
+    append_7 out c.args.used a ps n r fits (via c.bad_counts.ensures c.if-bad_counts.true)
+
+pub is_joinable-requires : goal.is_joinable-requires
+is_joinable-requires c = c.if-out-used.false
+
+pub returns-then-not-is_joinable : goal.returns-then-not-is_joinable
+returns-then-not-is_joinable c =
+    let start = c.before in
+    let out = start.args.out.now in
+    let ps = start.args.piece.now in
+    let a = start.args.out-count in
+    let n = start.args.piece-count in
+    let r = start.args.reversed in
+    let fits : start.args.used ≤ length out = c.if-out-used.false in
+    let good : bad_counts a n ≡ false = via c.bad_counts.ensures c.if-bad_counts.false in
+    append_6 out start.args.used a ps n r fits good (sym c.is_joinable.ensures ∙ not-true _ (ap (λ (b : Bool). not b) c.if-not-is_joinable.true))
+
+pub returns-then-not-is_sharp : goal.returns-then-not-is_sharp
+returns-then-not-is_sharp c =
+    let start = c.before in
+    let out = start.args.out.now in
+    let ps = start.args.piece.now in
+    let a = start.args.out-count in
+    let n = start.args.piece-count in
+    let r = start.args.reversed in
+    let fits : start.args.used ≤ length out = c.if-out-used.false in
+    let good : bad_counts a n ≡ false = via c.bad_counts.ensures c.if-bad_counts.false in
+    let may : joinable a (take start.args.used out) ≡ true = sym c.is_joinable.ensures ∙ not-false _ (ap (λ (b : Bool). not b) c.if-not-is_joinable.false) in
+    append_66 out start.args.used a ps n r fits good may (sym c.is_sharp.ensures ∙ not-true _ (ap (λ (b : Bool). not b) c.if-not-is_sharp.true))
+
+pub append_admitted-requires : goal.append_admitted-requires
+append_admitted-requires c =
+    let start = c.before in
+    let out = start.args.out.now in
+    let ps = start.args.piece.now in
+    let a = start.args.out-count in
+    let n = start.args.piece-count in
+    let r = start.args.reversed in
+    let fits : start.args.used ≤ length out = c.if-out-used.false in
+    let good : bad_counts a n ≡ false = via c.bad_counts.ensures c.if-bad_counts.false in
+    let may : joinable a (take start.args.used out) ≡ true = sym c.is_joinable.ensures ∙ not-false _ (ap (λ (b : Bool). not b) c.if-not-is_joinable.false) in
+    let sh : sharp n ps ≡ true = sym c.is_sharp.ensures ∙ not-false _ (ap (λ (b : Bool). not b) c.if-not-is_sharp.false) in
+    admitted out start.args.used a ps n r fits good may sh
+
+pub returns : goal.returns
+returns c =
+    let start = c.before in
+    let out = start.args.out.now in
+    let ps = start.args.piece.now in
+    let a = start.args.out-count in
+    let n = start.args.piece-count in
+    let r = start.args.reversed in
+    let fits : start.args.used ≤ length out = c.if-out-used.false in
+    let good : bad_counts a n ≡ false = via c.bad_counts.ensures c.if-bad_counts.false in
+    let may : joinable a (take start.args.used out) ≡ true = sym c.is_joinable.ensures ∙ not-false _ (ap (λ (b : Bool). not b) c.if-not-is_joinable.false) in
+    let sh : sharp n ps ≡ true = sym c.is_sharp.ensures ∙ not-false _ (ap (λ (b : Bool). not b) c.if-not-is_sharp.false) in
+    c.append_admitted.ensures ∙ append_goes out start.args.used a ps n r fits good may sh

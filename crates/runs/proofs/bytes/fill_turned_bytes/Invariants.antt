@@ -1,0 +1,22 @@
+-- `runs::bytes::fill_turned_bytes` meets its contract.
+use Prim.Native.Nat.{◌+◌, ◌-◌, ◌*◌, ◌≤◌}
+use mathlib.Core.Path.{◌≡◌, refl, sym, ap, ◌∙◌, subst}
+use native.Mathlib.Omega.{arith}
+use lib.ListN.{length, drop}
+use borrow.Author.Rules.{rules}
+use Rattle.codec.specs.Flat.{flat}
+use Rattle.runs.specs.Words.{pack}
+use Rattle.runs.specs.Reverse.{oriented}
+use Rattle.runs.specs.Inside.Cursor.{runs_from_step}
+use Rattle.runs.specs.Bytes.{le_bytes}
+use Rattle.runs.proofs.Laws.Lists.{Filled, fill_none, fill_end}
+use Rattle.runs.proofs.Laws.Reverse.{oriented_long, oriented_steady}
+use Rattle.runs.proofs.Laws.Cursor.{goes, run_is, rest_is, run_small}
+use Rattle.runs.proofs.Laws.Bytes.{length_le, length_flat, block, fill_block}
+use Rattle.runs.proofs.bytes.fill_turned_bytes.Given as goal
+
+abbrev pub invariant-loop-i : goal.invariant-loop-i
+invariant-loop-i l = (l.j ≤ length l.runs + length l.runs) × (drop l.i (runs_from_step l.n l.p (oriented l.reversed l.n l.runs) 0 0) ≡ runs_from_step l.n l.p (oriented l.reversed l.n l.runs) l.j l.colour) × (l.i ≤ l.count) × Filled (flat (le_bytes 8) (runs_from_step l.n l.p (oriented l.reversed l.n l.runs) 0 0)) l.initial.out l.out (8 * l.i)
+
+abbrev pub decreases-loop-i : goal.decreases-loop-i
+decreases-loop-i l = l.count - l.i

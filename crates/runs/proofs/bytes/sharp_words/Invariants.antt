@@ -1,0 +1,18 @@
+-- `runs::bytes::sharp_words` meets its contract.
+use Prim.Native.Nat.{ℕ, ◌+◌, ◌-◌, ◌≤◌}
+use mathlib.Core.Path.{◌≡◌, sym, ap, ◌∙◌}
+use native.Mathlib.Omega.{arith}
+use lib.ListN.{drop}
+use borrow.Author.Rules.{rules}
+use Rattle.runs.specs.Words.{offset}
+use Rattle.runs.specs.Orders.{climbs, sharp}
+use Rattle.runs.specs.Bytes.{words}
+use Rattle.runs.proofs.Laws.Orders.{taken, sharp_none, sharp_bad, sharp_in, strict_more, strict_bad, strict_end}
+use Rattle.runs.proofs.Laws.Bytes.{length_words, word_there, word_first}
+use Rattle.runs.proofs.bytes.sharp_words.Given as goal
+
+abbrev pub invariant-loop-i : goal.invariant-loop-i
+invariant-loop-i l = (1 ≤ l.i) × (sharp l.n (words l.count (drop l.at l.bytes)) ≡ climbs l.n l.last (drop l.i (words l.count (drop l.at l.bytes))))
+
+abbrev pub decreases-loop-i : goal.decreases-loop-i
+decreases-loop-i l = l.count - l.i

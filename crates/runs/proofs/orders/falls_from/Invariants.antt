@@ -1,0 +1,15 @@
+-- `runs::orders::falls_from` meets its contract.
+use Prim.Native.Nat.{◌-◌, ◌≤◌, ◌<◌}
+use mathlib.Core.Path.{◌≡◌}
+use native.Mathlib.Omega.{arith}
+use lib.ListN.{length}
+use borrow.Author.Rules.{rules}
+use Rattle.runs.specs.Inside.Falls.{falls}
+use Rattle.runs.proofs.Laws.Falls.{falls_none, falls_next, falls_end}
+use Rattle.runs.proofs.orders.falls_from.Given as goal
+
+abbrev pub invariant-loop-i : goal.invariant-loop-i
+invariant-loop-i l = (l.from ≤ l.i) × (l.i < length l.runs) × (l.count ≤ l.i) × (l.count ≡ falls l.step l.runs l.from (l.i - l.from))
+
+abbrev pub decreases-loop-i : goal.decreases-loop-i
+decreases-loop-i l = length l.runs - l.i

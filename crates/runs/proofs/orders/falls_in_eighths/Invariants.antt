@@ -1,0 +1,13 @@
+-- `runs::orders::falls_in_eighths` meets its contract.
+use Prim.Native.Nat.{◌-◌, ◌*◌, ◌≤◌}
+use mathlib.Core.Path.{◌≡◌}
+use native.Mathlib.Omega.{arith}
+use borrow.Author.Rules.{rules}
+use Rattle.runs.proofs.Laws.Falls.{in_eighths, eighths_none, eighths_more, eighths_end}
+use Rattle.runs.proofs.orders.falls_in_eighths.Given as goal
+
+abbrev pub invariant-loop-i : goal.invariant-loop-i
+invariant-loop-i l = (l.i ≤ l.eighth) × (l.count ≤ 8 * l.i) × (l.count ≡ in_eighths l.step l.runs l.eighth l.i)
+
+abbrev pub decreases-loop-i : goal.decreases-loop-i
+decreases-loop-i l = l.eighth - l.i

@@ -1,0 +1,26 @@
+-- `runs::orders::is_steady` meets its contract.
+use Prim.Native.Nat.{ℕ}
+use mathlib.Core.Path.{sym, ap, ◌∙◌}
+use lib.Dec.{leb}
+use borrow.Author.Rules.{rules}
+use borrow.Author.Tests.{not-true, not-false}
+use Rattle.runs.proofs.Laws.Orders.{steady_none, steady_bad}
+use Rattle.runs.proofs.Laws.Falls.{steady_falls, steady_last}
+use mathlib.Core.Bool.{Bool}
+use mathlib.Core.Bool.{not}
+use Rattle.runs.proofs.orders.is_steady.Goals as goal
+
+pub returns-then-runs-eq0 : goal.returns-then-runs-eq0
+returns-then-runs-eq0 c = sym (steady_none c.args.n c.args.runs.now c.if-runs-eq0.true)
+
+pub returns-then-offset-ne0 : goal.returns-then-offset-ne0
+returns-then-offset-ne0 c = sym (steady_bad c.args.n c.args.runs.now c.if-runs-eq0.false (λ e. c.if-offset-ne0.true (c.offset.ensures ∙ e)))
+
+pub returns-then-not-is_rising : goal.returns-then-not-is_rising
+returns-then-not-is_rising c =
+    sym (steady_falls c.args.n c.args.runs.now c.if-runs-eq0.false (sym c.offset.ensures ∙ c.if-offset-ne0.false) (sym c.is_rising.ensures ∙ not-true _ (ap (λ (b : Bool). not b) c.if-not-is_rising.true)))
+
+pub returns : goal.returns
+returns c =
+    let n = c.args.n in
+    ap (λ (x : ℕ). leb x n) c.offset-2.ensures ∙ sym (steady_last n c.args.runs.now c.if-runs-eq0.false (sym c.offset.ensures ∙ c.if-offset-ne0.false) (sym c.is_rising.ensures ∙ not-false _ (ap (λ (b : Bool). not b) c.if-not-is_rising.false)))

@@ -1,0 +1,15 @@
+-- `runs::reverse::fill_forward` meets its contract.
+use Prim.Native.Nat.{◌+◌, ◌-◌, ◌≤◌}
+use native.Mathlib.Omega.{arith}
+use lib.ListN.{length, drop}
+use borrow.Author.Rules.{rules}
+use Rattle.runs.specs.Append.{shifted}
+use Rattle.runs.proofs.Laws.Lists.{Filled, fill_none}
+use Rattle.runs.proofs.Laws.Fill.{forward_more, rest_end}
+use Rattle.runs.proofs.reverse.fill_forward.Given as goal
+
+abbrev pub invariant-loop-i : goal.invariant-loop-i
+invariant-loop-i l = (l.i ≤ length l.runs - 1) × Filled (shifted l.shift (drop 1 l.runs)) l.initial.out l.out l.i
+
+abbrev pub decreases-loop-i : goal.decreases-loop-i
+decreases-loop-i l = length l.runs - l.i

@@ -1,0 +1,25 @@
+-- `shell::commands::view_of` meets its contract.
+use Rattle.shell.proofs.Laws.Chosen.{said}
+use Rattle.shell.specs.Commands.{view_of}
+use borrow.Author.Rules.{rules}
+use Rattle.shell.proofs.commands.view_of.Goals as goal
+
+pub returns-then-same : goal.returns-then-same
+unfolding view_of
+returns-then-same c = search said
+
+pub returns-then-same-2 : goal.returns-then-same-2
+unfolding view_of
+returns-then-same-2 c = search said
+
+pub returns-then-same-3 : goal.returns-then-same-3
+unfolding view_of
+returns-then-same-3 c = search said
+
+pub returns-then-same-4 : goal.returns-then-same-4
+unfolding view_of
+returns-then-same-4 c = search said
+
+pub returns : goal.returns
+unfolding view_of
+returns c = search said

@@ -1,0 +1,15 @@
+-- `shell::fields::same` meets its contract.
+use Prim.Native.Nat.{◌-◌, ◌≤◌}
+use mathlib.Core.Path.{◌≡◌, refl}
+use native.Mathlib.Omega.{arith}
+use lib.ListN.{length, drop}
+use Rattle.shell.specs.Fields.{same}
+use Rattle.shell.proofs.Laws.Fields.{same_short, same_other, same_next, same_end}
+use borrow.Author.Rules.{rules}
+use Rattle.shell.proofs.fields.same.Given as goal
+
+abbrev pub invariant-loop-i : goal.invariant-loop-i
+invariant-loop-i l = (l.i ≤ length l.a) × (length l.a ≡ length l.b) × (same l.a l.b ≡ same (drop l.i l.a) (drop l.i l.b))
+
+abbrev pub decreases-loop-i : goal.decreases-loop-i
+decreases-loop-i l = length l.a - l.i

@@ -1,0 +1,14 @@
+-- `shell::lists::runs_at` meets its contract.
+use Prim.Native.Nat.{◌-◌}
+use mathlib.Core.Path.{◌≡◌, refl}
+use lib.ListN.{length}
+use Rattle.shell.specs.Lists.{runs_from}
+use Rattle.shell.proofs.Laws.Lists.{list_none, list_wrong, list_many, list_same, list_end}
+use borrow.Author.Rules.{rules}
+use Rattle.shell.proofs.lists.runs_at.Given as goal
+
+abbrev pub invariant-loop-left : goal.invariant-loop-left
+invariant-loop-left l = (length l.out ≡ length l.initial.out) × (runs_from (length l.line) l.line l.from 0 l.initial.out ≡ runs_from l.left l.line l.at l.k l.out)
+
+abbrev pub decreases-loop-left : goal.decreases-loop-left
+decreases-loop-left l = l.left

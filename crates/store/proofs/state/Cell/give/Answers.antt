@@ -1,0 +1,6 @@
+use borrow.Author.Rules.{rules}
+use Rattle.store.proofs.Laws.Showing.{given_set}
+use Rattle.store.proofs.state.Cell.give.Goals as goal
+
+pub returns : goal.returns
+returns c = search (given_set)

@@ -1,0 +1,15 @@
+use borrow.Author.Rules.{rules}
+use Rattle.store.proofs.Laws.Joining.{joined_lasts}
+use Rattle.store.proofs.state.Cell.is_last_join.Goals as goal
+
+pub returns-in-Fresh : goal.returns-in-Fresh
+returns-in-Fresh c = search joined_lasts
+
+pub returns-in-Add : goal.returns-in-Add
+returns-in-Add c = search joined_lasts
+
+pub returns-in-Join : goal.returns-in-Join
+returns-in-Join c = search joined_lasts
+
+pub returns-in-Close : goal.returns-in-Close
+returns-in-Close c = search joined_lasts
