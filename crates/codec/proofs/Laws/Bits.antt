@@ -7,7 +7,7 @@ use native.Mathlib.Nat.{add_comm, add-mod_right, mod-eq_of_lt, div-eq_of_lt, lt_
 use native.Mathlib.Numerals.{add-one}
 use native.Mathlib.Decide.{dec_le}
 use native.Mathlib.Omega.{arith}
-use lib.ListN.{length, take, drop, set, replicate, length-append, length-set, length-replicate, length-drop, take-append-drop, drop_of_length-le, replicate-append-replicate}
+use lib.ListN.{get_or, length, take, drop, set, replicate, length-append, length-set, length-replicate, length-drop, take-append-drop, drop_of_length-le, replicate-append-replicate}
 use lib.Seq.{take-suc-set, take_at, drop_at, take_all, length-take-le}
 use lib.Arith.{digits_lt}
 use lib.Pow.{pow-add, pow_mono, shl_exact}
@@ -139,12 +139,12 @@ low_more p k n h = low_add p k n ∙ ap (λ (m : ℕ). low_bits p n ++ low_bits 
 pub bytes_take : (n : ℕ) (xs : List ℕ) → AreBytes xs → AreBytes (take n xs)
 bytes_take zero xs h = λ i. omega arith
 bytes_take (suc n) [] h = h
-bytes_take (suc n) (x ∷ xs) h = λ i. elim i [ zero ↦ h 0 | suc j ↦ bytes_take n xs (λ k. h (suc k)) j ]
+bytes_take (suc n) (x ∷ xs) h = λ i. elim i as (λ i. get_or (take (suc n) (x ∷ xs)) i 0 < 256) [ zero ↦ h 0 | suc j ↦ bytes_take n xs (λ k. h (suc k)) j ]
 
 pub bytes_set : (xs : List ℕ) (i v : ℕ) → AreBytes xs → v < 256 → AreBytes (set xs i v)
 bytes_set [] i v h l = h
-bytes_set (x ∷ xs) zero v h l = λ k. elim k [ zero ↦ l | suc j ↦ h (suc j) ]
-bytes_set (x ∷ xs) (suc i) v h l = λ k. elim k [ zero ↦ h 0 | suc j ↦ bytes_set xs i v (λ m. h (suc m)) l j ]
+bytes_set (x ∷ xs) zero v h l = λ k. elim k as (λ k. get_or (set (x ∷ xs) 0 v) k 0 < 256) [ zero ↦ l | suc j ↦ h (suc j) ]
+bytes_set (x ∷ xs) (suc i) v h l = λ k. elim k as (λ k. get_or (set (x ∷ xs) (suc i) v) k 0 < 256) [ zero ↦ h 0 | suc j ↦ bytes_set xs i v (λ m. h (suc m)) l j ]
 
 -- what is left at the end: nothing, or a part of a byte
 pub packed_whole : (out : List ℕ) (at acc left : ℕ) → AreBytes out → left ≡ 0 → pack_bits (bits_of (take at out) ++ low_bits left acc) ≡ take at out

@@ -2,7 +2,7 @@
 use mathlib.Core.Path.{subst}
 use native.Mathlib.Omega.{arith}
 use borrow.Author.Rules.{rules}
-use Rattle.codec.specs.Codes.{read_gamma}
+use Rattle.codec.specs.Codes.{read_delta, read_gamma, read_low}
 use Rattle.codec.specs.Inside.Places.{ReadCodeAt}
 use Rattle.codec.specs.declared.codes.ReadCode.TheVariants.{Value}
 use Rattle.codec.proofs.Laws.Codes.{delta_from, delta_large}
@@ -24,4 +24,4 @@ low_at-requires c = omega (arith, (found c).1)
 pub returns : goal.returns
 returns c =
     let found : ReadCodeAt read_gamma c.args.bytes.now c.args.at (Value c.in-Value.value c.in-Value.next) = subst (ReadCodeAt read_gamma c.args.bytes.now c.args.at) c.in-Value.is c.read_gamma.ensures in
-    found_as _ _ _ _ _ c.low_at.result (delta_from _ _ _ (found).0) c.low_at.ensures
+    found_as read_delta (read_low c.in-Value.value) c.args.bytes.now c.args.at c.in-Value.next c.low_at.result (delta_from _ _ _ found.0) c.low_at.ensures

@@ -1,19 +1,19 @@
-use Prim.Native.Nat.{ℕ, ◌+◌, ◌-◌, ◌*◌, ◌≤◌, ◌<◌}
+use Prim.Native.Nat.{ℕ, ◌/◌, ◌+◌, ◌-◌, ◌*◌, ◌≤◌, ◌<◌}
 use mathlib.Core.Path.{◌≡◌, sym, ap, ◌∙◌, subst}
 use mathlib.Core.Bool.{true, false}
 use native.Mathlib.Omega.{arith}
 use lib.ListN.{length, get_or, drop}
 use mathlib.Core.List.{List}
-use mathlib.Core.Logic.{inl, inr}
 use borrow.Author.Rules.{rules}
 use Rattle.codec.specs.declared.codes.Zeros.{Zeros}
 use Rattle.codec.specs.declared.codes.Zeros.TheVariants.{Count, End}
 use Rattle.codec.specs.Bits.{bits_of, digit}
-use Rattle.codec.specs.Codes.{read_zeros, got, end}
+use Rattle.codec.specs.Codes.{read_zeros, read_gamma, read_low, got, end}
 use Rattle.codec.proofs.Laws.Low.{length_bits, digit_zero, digit_one}
 use Rattle.codec.proofs.Laws.Codes.{zeros_more, zeros_stop, zeros_end, end_got, gamma_end, gamma_from}
 use Rattle.codec.proofs.Laws.Places.{found_as}
 use Rattle.codec.proofs.codes.read_gamma.Goals as goal
+use Rattle.codec.proofs.codes.read_gamma.Goals.{then-bytes-place, else-bytes-place+then-bit_at-ne0}
 
 pub loop-place-init : goal.loop-place-init
 loop-place-init c = (omega arith, ap (λ (z : ℕ). read_zeros z (drop c.args.at (bits_of c.args.bytes.now))) (omega arith))
@@ -32,67 +32,83 @@ abbrev Yields : List ℕ → ℕ → Zeros → Type 0
 Yields bytes at (Count n) = (read_zeros 0 (drop at (bits_of bytes)) ≡ got n (drop (at + n + 1) (bits_of bytes))) × (at + n < 8 * length bytes)
 Yields bytes at End = read_zeros 0 (drop at (bits_of bytes)) ≡ end
 
-yields : (c : goal.Joined-bytes-place) → Yields c.args.bytes.now c.args.at c.if-bytes-place.zeros
-yields c =
-    let bytes = c.args.bytes.now in
-    let at = c.args.at in
-    let bits = bits_of bytes in
-    let place = c.loop-place.place in
-    let inv = c.loop-place.invariant in
-    elim c.if-bytes-place.branch [
-      | inl w ↦ subst (Yields bytes at) (sym w.1) (inv.1 ∙ zeros_end bits (place - at) place (rw length_bits (omega (arith, w.0.taken))))
-      | inr w ↦
-          let bit : get_or bits place false ≡ true = digit_one (get_or bits place false) (λ z. w.2.taken (w.1.ensures ∙ z)) in
-          let next : at + (place - at) + 1 ≡ place + 1 = omega arith in
-          subst (Yields bytes at) (sym w.3)
-          (rw next (inv.1 ∙ zeros_stop bits (place - at) place (rw length_bits (omega (arith, w.0.left))) bit), omega (arith, w.0.left))
-    ]
+-- zeros up to the end, and zeros up to a one
+module _ (bytes : List ℕ) (at place : ℕ) (inv : (at ≤ place) × (read_zeros 0 (drop at (bits_of bytes)) ≡ read_zeros (place - at) (drop place (bits_of bytes)))) where
+  ended : length bytes ≤ place / 8 → Yields bytes at End
+  ended h = inv.1 ∙ zeros_end (bits_of bytes) (place - at) place (rw length_bits (omega arith))
+
+  counted : place / 8 < length bytes → (b : ℕ) → b ≡ digit (get_or (bits_of bytes) place false) → (b ≡ 0 → ⊥) → Yields bytes at (Count (place - at))
+  counted h b e ne =
+      let bit : get_or (bits_of bytes) place false ≡ true = digit_one (get_or (bits_of bytes) place false) (λ z. ne (e ∙ z)) in
+      let next : at + (place - at) + 1 ≡ place + 1 = omega arith in
+      (rw next (inv.1 ∙ zeros_stop (bits_of bytes) (place - at) place (rw length_bits (omega arith)) bit), omega arith)
 
 pub returns-in_default : goal.returns-in_default
 returns-in_default c =
-    let yields : Yields c.args.bytes.now c.args.at c.if-bytes-place.zeros = let bytes = c.args.bytes.now in
+    let bytes = c.args.bytes.now in
     let at = c.args.at in
-    let bits = bits_of bytes in
     let place = c.loop-place.place in
-    let inv = c.loop-place.invariant in
-    elim c.if-bytes-place.branch [
-      | inl w ↦ subst (Yields bytes at) (sym w.1) (inv.1 ∙ zeros_end bits (place - at) place (rw length_bits (omega (arith, w.0.taken))))
-      | inr w ↦
-          let bit : get_or bits place false ≡ true = digit_one (get_or bits place false) (λ z. w.2.taken (w.1.ensures ∙ z)) in
-          let next : at + (place - at) + 1 ≡ place + 1 = omega arith in
-          subst (Yields bytes at) (sym w.3)
-          (rw next (inv.1 ∙ zeros_stop bits (place - at) place (rw length_bits (omega (arith, w.0.left))) bit), omega (arith, w.0.left))
-    ] in
-    let z = subst (Yields c.args.bytes.now c.args.at) c.in_default.is (yields) in
+    let yields : Yields bytes at c.if-bytes-place.zeros =
+        elim c.if-bytes-place.branch [
+          | then-bytes-place w ↦ subst (Yields bytes at) (sym w.zeros-is) (ended bytes at place c.loop-place.invariant w.if-bytes-place.true)
+          | else-bytes-place+then-bit_at-ne0 w ↦ subst (Yields bytes at) (sym w.zeros-is) (counted bytes at place c.loop-place.invariant w.if-bytes-place.false _ w.bit_at.ensures w.if-bit_at-ne0.true)
+        ]
+    in
+    let z = subst (Yields bytes at) c.in_default.is yields in
     λ v rest e. end_got (gamma_end _ z) e
 
-found : (c : goal.In-Count) → Yields c.args.bytes.now c.args.at (Count c.in-Count.n)
-found c = subst (Yields c.args.bytes.now c.args.at) c.in-Count.is (yields c«Joined-bytes-place»)
-
 pub overflow_add-at : goal.overflow_add-at
-overflow_add-at c = omega (arith, (found c).1)
+overflow_add-at c =
+    let bytes = c.args.bytes.now in
+    let at = c.args.at in
+    let place = c.loop-place.place in
+    let yields : Yields bytes at c.if-bytes-place.zeros =
+        elim c.if-bytes-place.branch [
+          | then-bytes-place w ↦ subst (Yields bytes at) (sym w.zeros-is) (ended bytes at place c.loop-place.invariant w.if-bytes-place.true)
+          | else-bytes-place+then-bit_at-ne0 w ↦ subst (Yields bytes at) (sym w.zeros-is) (counted bytes at place c.loop-place.invariant w.if-bytes-place.false _ w.bit_at.ensures w.if-bit_at-ne0.true)
+        ]
+    in
+    let found : Yields bytes at (Count c.in-Count.n) = subst (Yields bytes at) c.in-Count.is yields in
+    omega (arith, found.1)
 
 pub overflow_add-at-2 : goal.overflow_add-at-2
-overflow_add-at-2 c = omega (arith, (found c).1)
+overflow_add-at-2 c =
+    let bytes = c.args.bytes.now in
+    let at = c.args.at in
+    let place = c.loop-place.place in
+    let yields : Yields bytes at c.if-bytes-place.zeros =
+        elim c.if-bytes-place.branch [
+          | then-bytes-place w ↦ subst (Yields bytes at) (sym w.zeros-is) (ended bytes at place c.loop-place.invariant w.if-bytes-place.true)
+          | else-bytes-place+then-bit_at-ne0 w ↦ subst (Yields bytes at) (sym w.zeros-is) (counted bytes at place c.loop-place.invariant w.if-bytes-place.false _ w.bit_at.ensures w.if-bit_at-ne0.true)
+        ]
+    in
+    let found : Yields bytes at (Count c.in-Count.n) = subst (Yields bytes at) c.in-Count.is yields in
+    omega (arith, found.1)
 
 pub low_at-requires : goal.low_at-requires
-low_at-requires c = omega (arith, (found c).1)
+low_at-requires c =
+    let bytes = c.args.bytes.now in
+    let at = c.args.at in
+    let place = c.loop-place.place in
+    let yields : Yields bytes at c.if-bytes-place.zeros =
+        elim c.if-bytes-place.branch [
+          | then-bytes-place w ↦ subst (Yields bytes at) (sym w.zeros-is) (ended bytes at place c.loop-place.invariant w.if-bytes-place.true)
+          | else-bytes-place+then-bit_at-ne0 w ↦ subst (Yields bytes at) (sym w.zeros-is) (counted bytes at place c.loop-place.invariant w.if-bytes-place.false _ w.bit_at.ensures w.if-bit_at-ne0.true)
+        ]
+    in
+    let found : Yields bytes at (Count c.in-Count.n) = subst (Yields bytes at) c.in-Count.is yields in
+    omega (arith, found.1)
 
 pub returns : goal.returns
 returns c =
-    let yields : Yields c.args.bytes.now c.args.at c.if-bytes-place.zeros = let bytes = c.args.bytes.now in
+    let bytes = c.args.bytes.now in
     let at = c.args.at in
-    let bits = bits_of bytes in
     let place = c.loop-place.place in
-    let inv = c.loop-place.invariant in
-    elim c.if-bytes-place.branch [
-      | inl w ↦ subst (Yields bytes at) (sym w.1) (inv.1 ∙ zeros_end bits (place - at) place (rw length_bits (omega (arith, w.0.taken))))
-      | inr w ↦
-          let bit : get_or bits place false ≡ true = digit_one (get_or bits place false) (λ z. w.2.taken (w.1.ensures ∙ z)) in
-          let next : at + (place - at) + 1 ≡ place + 1 = omega arith in
-          subst (Yields bytes at) (sym w.3)
-          (rw next (inv.1 ∙ zeros_stop bits (place - at) place (rw length_bits (omega (arith, w.0.left))) bit), omega (arith, w.0.left))
-    ] in
-    let found : Yields c.args.bytes.now c.args.at (Count c.in-Count.n) = subst (Yields c.args.bytes.now c.args.at) c.in-Count.is (yields) in
-    let z = found in
-    found_as _ _ _ _ _ c.low_at.result (gamma_from _ _ _ z.0) c.low_at.ensures
+    let yields : Yields bytes at c.if-bytes-place.zeros =
+        elim c.if-bytes-place.branch [
+          | then-bytes-place w ↦ subst (Yields bytes at) (sym w.zeros-is) (ended bytes at place c.loop-place.invariant w.if-bytes-place.true)
+          | else-bytes-place+then-bit_at-ne0 w ↦ subst (Yields bytes at) (sym w.zeros-is) (counted bytes at place c.loop-place.invariant w.if-bytes-place.false _ w.bit_at.ensures w.if-bit_at-ne0.true)
+        ]
+    in
+    let found : Yields bytes at (Count c.in-Count.n) = subst (Yields bytes at) c.in-Count.is yields in
+    found_as read_gamma (read_low c.in-Count.n) bytes at (at + c.in-Count.n + 1) c.low_at.result (gamma_from _ _ _ found.0) c.low_at.ensures

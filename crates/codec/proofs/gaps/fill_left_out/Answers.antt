@@ -15,21 +15,18 @@ use Rattle.codec.proofs.gaps.fill_left_out.Goals as goal
 
 pub slice_bounds-others-end : goal.slice_bounds-others-end
 slice_bounds-others-end c =
-    let start = c.before in
-    sym (length-take-le start.args.n start.args.room.now c.if-n-room.true)
+    sym (length-take-le c.args.n c.args.room.now c.if-n-room.true)
 
 pub fill_outside-requires : goal.fill_outside-requires
 fill_outside-requires c =
-    let start = c.before in
-    let a = start.requires.1.0 in
-    let g = gaps_only start.args.n 0 start.args.top _ a.0 a.1 a.2 in
-    let k = subst (λ (r : ReadIds). Kept r start.args.n start.args.room.now) a.2 start.requires.1.1 c.if-n-room.true in
-    (subst (Within 0 start.args.top) (sym k) g.within, omega (arith, length-take-le start.args.n start.args.room.now c.if-n-room.true))
+    let a = c.requires.accepted.0 in
+    let g = gaps_only c.args.n 0 c.args.top _ a.0 a.1 a.2 in
+    let k = subst (λ (r : ReadIds). Kept r c.args.n c.args.room.now) a.2 c.requires.accepted.1 c.if-n-room.true in
+    (subst (Within 0 c.args.top) (sym k) g.within, omega (arith, length-take-le c.args.n c.args.room.now c.if-n-room.true))
 
 pub returns-then-n-room : goal.returns-then-n-room
 returns-then-n-room c =
-    let start = c.before in
-    c.fill_outside.ensures ∙ ap (λ (l : List ℕ). over (absent start.args.top l) start.args.out.now) (kept_ids _ _ _ start.requires.1.0 start.args.room.now start.requires.1.1 c.if-n-room.true)
+    c.fill_outside.ensures ∙ ap (λ (l : List ℕ). over (absent c.args.top l) c.args.out.now) (kept_ids _ _ _ c.requires.accepted.0 c.args.room.now c.requires.accepted.1 c.if-n-room.true)
 
 pub returns : goal.returns
 returns c = c.fill_uncoded.ensures

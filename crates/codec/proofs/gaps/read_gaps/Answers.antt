@@ -51,7 +51,7 @@ loop-i-preserved c =
       ap length c.put_id.ensures ∙ length-set c.loop-i.room c.loop-i.i id ∙ c.loop-i.invariant.3,
       (
         v.0 ++ (id ∷ []),
-        length-append v.0 (id ∷ []) ∙ ap (λ (c«In-Value» : ℕ). c«In-Value» + 1) v.1,
+        length-append v.0 (id ∷ []) ∙ ap (λ (m : ℕ). m + 1) v.1,
         c.put_id.ensures ∙ ap (λ (o : List ℕ). set o c.loop-i.i id) v.2 ∙ put_set_lem v.0 c.args.room.now c.loop-i.i id v.1,
         ahead _ v.0 c.args.n c.loop-i.i c.loop-i.from c.args.top _ c.loop-i-test.true v.3 c.in-Value.value _ f.0 h,
       ),

@@ -2,7 +2,6 @@
 use Prim.Native.Nat.{ℕ, ◌+◌, ◌*◌, ◌%◌, ◌^◌, ◌<◌}
 use mathlib.Core.Path.{◌≡◌, refl, ap, ◌∙◌}
 use mathlib.Core.Bool.{Bool, true, false, not, ◌||◌}
-use mathlib.Core.Logic.{inl, inr}
 use native.Mathlib.Nat.{mul_comm, lt_of_lt_of_le}
 use native.Mathlib.Omega.{arith}
 use lib.Dec.{ltb, eqb}
@@ -11,6 +10,7 @@ use borrow.Author.Tests.{lt-ltb, le-ltb, eq-eqb, ne_eqb}
 use Rattle.codec.proofs.Laws.Bits.{joined_lt, shift_fits}
 use borrow.Author.Rules.{rules}
 use Rattle.codec.proofs.prefix.last_group.Goals as goal
+use Rattle.codec.proofs.prefix.last_group.Goals.{then-b-eq0+else-i-gt0, else-b-eq0}
 
 or-true : (a : Bool) → a || true ≡ true
 or-true true = refl
@@ -43,8 +43,8 @@ returns c =
     let u : ltb (a.low + 2 ^ (7 * a.i) * a.b) (2 ^ 32) ≡ true = lt-ltb (a.low + 2 ^ (7 * a.i) * a.b) (2 ^ 32) (omega (arith, e)) in
     let t : eqb a.i 0 || not (eqb a.b 0) ≡ true =
     elim c.if-b-eq0.branch [
-      | inl w ↦ rw (eq-eqb a.i 0 (omega (arith, w.1.left)))
-      | inr w ↦ rw (ne_eqb a.b 0 w.left) (or-true (eqb a.i 0))
+      | then-b-eq0+else-i-gt0 w ↦ rw (eq-eqb a.i 0 (omega arith))
+      | else-b-eq0 w ↦ rw (ne_eqb a.b 0 w.if-b-eq0.false) (or-true (eqb a.i 0))
     ]
     in
     rw (e, u, t)

@@ -1,4 +1,5 @@
 -- `sets::check_set` meets its contract.
+use Prim.Native.Nat.{ℕ}
 use mathlib.Core.Path.{sym, ◌∙◌, subst}
 use mathlib.Core.Bool.{Bool, true, false}
 use mathlib.Core.List.{List}
@@ -15,13 +16,12 @@ use Rattle.codec.proofs.Laws.Decoding.{no_length, no_body, padded_body, body_cou
 use borrow.Author.Rules.{rules}
 use Rattle.codec.proofs.sets.check_set.Goals as goal
 
-abbrev BodyAt : (c : goal.In-Value) → Checked → Type 0
-BodyAt c =
-    let count = c.in-Value.value in
-    IdsAt (read_body (regime c.args.n count) c.args.n count) c.args.payload.now c.in-Value.next
+-- the ids of a body whose length was read before
+abbrev BodyAt : ℕ → ℕ → List ℕ → ℕ → Checked → Type 0
+BodyAt n count payload next = IdsAt (read_body (regime n count) n count) payload next
 
-body : (c : goal.In-Good) → BodyAt c«In-Value» (Good c.in-Good.behind)
-body c = subst (BodyAt c«In-Value») c.in-Good.is c.check_body.ensures.0
+body : (c : goal.In-Good) → BodyAt c.args.n c.in-Value.value c.args.payload.now c.in-Value.next (Good c.in-Good.behind)
+body c = subst (BodyAt c.args.n c.in-Value.value c.args.payload.now c.in-Value.next) c.in-Good.is c.check_body.ensures.0
 
 pub returns-in_default : goal.returns-in_default
 returns-in_default c =
@@ -35,10 +35,8 @@ check_body-requires c =
 pub returns-in_default-check_body : goal.returns-in_default-check_body
 returns-in_default-check_body c =
     let length_at : ReadCodeAt read_delta c.args.payload.now 0 (Value c.in-Value.value c.in-Value.next) = subst (ReadCodeAt read_delta c.args.payload.now 0) c.in-Value.is c.first_delta.ensures in
-    let BodyAt : Checked → Type 0 = let count = c.in-Value.value in
-    IdsAt (read_body (regime c.args.n count) c.args.n count) c.args.payload.now c.in-Value.next in
     let f = length_at in
-    (no_body c.args.n c.args.payload.now c.in-Value.value (drop c.in-Value.next (bits_of c.args.payload.now)) f.0 (subst (BodyAt) c.in_default-check_body.is c.check_body.ensures.0), tt)
+    (no_body c.args.n c.args.payload.now c.in-Value.value (drop c.in-Value.next (bits_of c.args.payload.now)) f.0 (subst (BodyAt c.args.n c.in-Value.value c.args.payload.now c.in-Value.next) c.in_default-check_body.is c.check_body.ensures.0), tt)
 
 pub is_padding-requires : goal.is_padding-requires
 is_padding-requires c = (search rules, (body c).1)
@@ -46,9 +44,7 @@ is_padding-requires c = (search rules, (body c).1)
 pub returns-then-is_padding : goal.returns-then-is_padding
 returns-then-is_padding c =
     let length_at : ReadCodeAt read_delta c.args.payload.now 0 (Value c.in-Value.value c.in-Value.next) = subst (ReadCodeAt read_delta c.args.payload.now 0) c.in-Value.is c.first_delta.ensures in
-    let BodyAt : Checked → Type 0 = let count = c.in-Value.value in
-    IdsAt (read_body (regime c.args.n count) c.args.n count) c.args.payload.now c.in-Value.next in
-    let body : BodyAt (Good c.in-Good.behind) = subst (BodyAt) c.in-Good.is c.check_body.ensures.0 in
+    let body : BodyAt c.args.n c.in-Value.value c.args.payload.now c.in-Value.next (Good c.in-Good.behind) = subst (BodyAt c.args.n c.in-Value.value c.args.payload.now c.in-Value.next) c.in-Good.is c.check_body.ensures.0 in
     let f = length_at in
     let i = body in
     let bits : List Bool = bits_of c.args.payload.now in (
@@ -63,9 +59,7 @@ returns-then-is_padding c =
 pub returns : goal.returns
 returns c =
     let length_at : ReadCodeAt read_delta c.args.payload.now 0 (Value c.in-Value.value c.in-Value.next) = subst (ReadCodeAt read_delta c.args.payload.now 0) c.in-Value.is c.first_delta.ensures in
-    let BodyAt : Checked → Type 0 = let count = c.in-Value.value in
-    IdsAt (read_body (regime c.args.n count) c.args.n count) c.args.payload.now c.in-Value.next in
-    let body : BodyAt (Good c.in-Good.behind) = subst (BodyAt) c.in-Good.is c.check_body.ensures.0 in
+    let body : BodyAt c.args.n c.in-Value.value c.args.payload.now c.in-Value.next (Good c.in-Good.behind) = subst (BodyAt c.args.n c.in-Value.value c.args.payload.now c.in-Value.next) c.in-Good.is c.check_body.ensures.0 in
     let f = length_at in
     let i = body in
     let bits : List Bool = bits_of c.args.payload.now in
