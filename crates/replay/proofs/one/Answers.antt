@@ -22,7 +22,7 @@ pub shape_of-table-then-kind-eq0 : goal.shape_of-table-then-kind-eq0
 shape_of-table-then-kind-eq0 c = refl
 
 pub returns-then-kind-eq0 : goal.returns-then-kind-eq0
-returns-then-kind-eq0 c = case_add _ _ _ _ _ _ _ _ _ _ c.before.before.before.before.requires.1 c.if-kind-eq0.true c.one_add.ensures
+returns-then-kind-eq0 c = case_add _ _ _ _ _ _ _ _ _ _ c.requires.1 c.if-kind-eq0.true c.one_add.ensures
 
 pub shape_of-records-then-kind-eq1 : goal.shape_of-records-then-kind-eq1
 shape_of-records-then-kind-eq1 c = refl
@@ -43,7 +43,7 @@ pub shape_of-table-then-kind-eq1 : goal.shape_of-table-then-kind-eq1
 shape_of-table-then-kind-eq1 c = refl
 
 pub returns-then-kind-eq1 : goal.returns-then-kind-eq1
-returns-then-kind-eq1 c = case_join _ _ _ _ _ _ _ _ _ _ c.before.before.before.before.requires.1 c.if-kind-eq1.true c.one_join.ensures
+returns-then-kind-eq1 c = case_join _ _ _ _ _ _ _ _ _ _ c.requires.1 c.if-kind-eq1.true c.one_join.ensures
 
 pub shape_of-records-then-kind-eq2 : goal.shape_of-records-then-kind-eq2
 shape_of-records-then-kind-eq2 c = refl
@@ -64,7 +64,7 @@ pub shape_of-table-then-kind-eq2 : goal.shape_of-table-then-kind-eq2
 shape_of-table-then-kind-eq2 c = c.one_close.auto.1.1.1.1.1.1.1.1.0
 
 pub returns-then-kind-eq2 : goal.returns-then-kind-eq2
-returns-then-kind-eq2 c = case_line _ _ _ _ _ _ _ _ _ _ c.before.before.before.before.requires.1 c.if-kind-eq2.true c.one_close.ensures
+returns-then-kind-eq2 c = case_line _ _ _ _ _ _ _ _ _ _ c.requires.1 c.if-kind-eq2.true c.one_close.ensures
 
 pub shape_of-records-then-kind-eq3 : goal.shape_of-records-then-kind-eq3
 shape_of-records-then-kind-eq3 c = refl
@@ -85,7 +85,7 @@ pub shape_of-table-then-kind-eq3 : goal.shape_of-table-then-kind-eq3
 shape_of-table-then-kind-eq3 c = c.one_close-then-kind-eq3.auto.1.1.1.1.1.1.1.1.0
 
 pub returns-then-kind-eq3 : goal.returns-then-kind-eq3
-returns-then-kind-eq3 c = case_cycle _ _ _ _ _ _ _ _ _ _ c.before.before.before.before.requires.1 c.if-kind-eq3.true c.one_close-then-kind-eq3.ensures
+returns-then-kind-eq3 c = case_cycle _ _ _ _ _ _ _ _ _ _ c.requires.1 c.if-kind-eq3.true c.one_close-then-kind-eq3.ensures
 
 pub shape_of-records : goal.shape_of-records
 shape_of-records c = refl

@@ -25,7 +25,7 @@ shape_of-table-in-Refused c = refl
 
 pub returns-in-Refused : goal.returns-in-Refused
 returns-in-Refused c =
-    let a = c.before.before.before.before.before.args in
+    let a = c.args in
     let k = start_kept _ _ _ _ _ (bufs a.records.now a.index.now a.opened.now a.held.now a.runs.now a.table.now) _ c.start-begun.ensures c.in-Refused.is in
     (k.0, k.1, refl, refl, refl)
 
@@ -58,5 +58,5 @@ shape_of-shown c = c.replay-last.auto.1.1.1.1.1.1.1.1.1.1.1.1.0
 
 pub returns-in-Done : goal.returns-in-Done
 returns-in-Done c =
-    let a = c.before.before.before.before.before.args in
+    let a = c.args in
     session_ran _ _ _ _ _ _ _ _ (bufs a.records.now a.index.now a.opened.now a.held.now a.runs.now a.table.now) _ _ _ _ _ _ _ _ c.start-begun.ensures c.in-Done.is c.replay-last.ensures

@@ -22,8 +22,8 @@ pub returns-then-bad_counts : goal.returns-then-bad_counts
 returns-then-bad_counts c =
     let out = c.args.out.now in
     let ps = c.args.piece.now in
-    let a = c.args.out-count in
-    let n = c.args.piece-count in
+    let a = c.args.out_count in
+    let n = c.args.piece_count in
     let r = c.args.reversed in
     let fits : c.args.used ≤ length out = c.if-out-used.false in
     append_7 out c.args.used a ps n r fits (via c.bad_counts.ensures c.if-bad_counts.true)
@@ -33,53 +33,49 @@ is_joinable-requires c = c.if-out-used.false
 
 pub returns-then-not-is_joinable : goal.returns-then-not-is_joinable
 returns-then-not-is_joinable c =
-    let start = c.before in
-    let out = start.args.out.now in
-    let ps = start.args.piece.now in
-    let a = start.args.out-count in
-    let n = start.args.piece-count in
-    let r = start.args.reversed in
-    let fits : start.args.used ≤ length out = c.if-out-used.false in
+    let out = c.args.out.now in
+    let ps = c.args.piece.now in
+    let a = c.args.out_count in
+    let n = c.args.piece_count in
+    let r = c.args.reversed in
+    let fits : c.args.used ≤ length out = c.if-out-used.false in
     let good : bad_counts a n ≡ false = via c.bad_counts.ensures c.if-bad_counts.false in
-    append_6 out start.args.used a ps n r fits good (sym c.is_joinable.ensures ∙ not-true _ (ap (λ (b : Bool). not b) c.if-not-is_joinable.true))
+    append_6 out c.args.used a ps n r fits good (sym c.is_joinable.ensures ∙ not-true _ (ap (λ (b : Bool). not b) c.if-not-is_joinable.true))
 
 pub returns-then-not-is_sharp : goal.returns-then-not-is_sharp
 returns-then-not-is_sharp c =
-    let start = c.before in
-    let out = start.args.out.now in
-    let ps = start.args.piece.now in
-    let a = start.args.out-count in
-    let n = start.args.piece-count in
-    let r = start.args.reversed in
-    let fits : start.args.used ≤ length out = c.if-out-used.false in
+    let out = c.args.out.now in
+    let ps = c.args.piece.now in
+    let a = c.args.out_count in
+    let n = c.args.piece_count in
+    let r = c.args.reversed in
+    let fits : c.args.used ≤ length out = c.if-out-used.false in
     let good : bad_counts a n ≡ false = via c.bad_counts.ensures c.if-bad_counts.false in
-    let may : joinable a (take start.args.used out) ≡ true = sym c.is_joinable.ensures ∙ not-false _ (ap (λ (b : Bool). not b) c.if-not-is_joinable.false) in
-    append_66 out start.args.used a ps n r fits good may (sym c.is_sharp.ensures ∙ not-true _ (ap (λ (b : Bool). not b) c.if-not-is_sharp.true))
+    let may : joinable a (take c.args.used out) ≡ true = sym c.is_joinable.ensures ∙ not-false _ (ap (λ (b : Bool). not b) c.if-not-is_joinable.false) in
+    append_66 out c.args.used a ps n r fits good may (sym c.is_sharp.ensures ∙ not-true _ (ap (λ (b : Bool). not b) c.if-not-is_sharp.true))
 
 pub append_admitted-requires : goal.append_admitted-requires
 append_admitted-requires c =
-    let start = c.before in
-    let out = start.args.out.now in
-    let ps = start.args.piece.now in
-    let a = start.args.out-count in
-    let n = start.args.piece-count in
-    let r = start.args.reversed in
-    let fits : start.args.used ≤ length out = c.if-out-used.false in
+    let out = c.args.out.now in
+    let ps = c.args.piece.now in
+    let a = c.args.out_count in
+    let n = c.args.piece_count in
+    let r = c.args.reversed in
+    let fits : c.args.used ≤ length out = c.if-out-used.false in
     let good : bad_counts a n ≡ false = via c.bad_counts.ensures c.if-bad_counts.false in
-    let may : joinable a (take start.args.used out) ≡ true = sym c.is_joinable.ensures ∙ not-false _ (ap (λ (b : Bool). not b) c.if-not-is_joinable.false) in
+    let may : joinable a (take c.args.used out) ≡ true = sym c.is_joinable.ensures ∙ not-false _ (ap (λ (b : Bool). not b) c.if-not-is_joinable.false) in
     let sh : sharp n ps ≡ true = sym c.is_sharp.ensures ∙ not-false _ (ap (λ (b : Bool). not b) c.if-not-is_sharp.false) in
-    admitted out start.args.used a ps n r fits good may sh
+    admitted out c.args.used a ps n r fits good may sh
 
 pub returns : goal.returns
 returns c =
-    let start = c.before in
-    let out = start.args.out.now in
-    let ps = start.args.piece.now in
-    let a = start.args.out-count in
-    let n = start.args.piece-count in
-    let r = start.args.reversed in
-    let fits : start.args.used ≤ length out = c.if-out-used.false in
+    let out = c.args.out.now in
+    let ps = c.args.piece.now in
+    let a = c.args.out_count in
+    let n = c.args.piece_count in
+    let r = c.args.reversed in
+    let fits : c.args.used ≤ length out = c.if-out-used.false in
     let good : bad_counts a n ≡ false = via c.bad_counts.ensures c.if-bad_counts.false in
-    let may : joinable a (take start.args.used out) ≡ true = sym c.is_joinable.ensures ∙ not-false _ (ap (λ (b : Bool). not b) c.if-not-is_joinable.false) in
+    let may : joinable a (take c.args.used out) ≡ true = sym c.is_joinable.ensures ∙ not-false _ (ap (λ (b : Bool). not b) c.if-not-is_joinable.false) in
     let sh : sharp n ps ≡ true = sym c.is_sharp.ensures ∙ not-false _ (ap (λ (b : Bool). not b) c.if-not-is_sharp.false) in
-    c.append_admitted.ensures ∙ append_goes out start.args.used a ps n r fits good may sh
+    c.append_admitted.ensures ∙ append_goes out c.args.used a ps n r fits good may sh

@@ -16,10 +16,10 @@ pub returns-then-used-eq0 : goal.returns-then-used-eq0
 returns-then-used-eq0 c = sym (open_none c.args.n c.args.runs.now c.args.used c.requires c.if-used-eq0.true)
 
 pub slice_bounds-is_steady-end : goal.slice_bounds-is_steady-end
-slice_bounds-is_steady-end c = let start = c.before in sym (length-take-le start.args.used start.args.runs.now start.requires)
+slice_bounds-is_steady-end c = sym (length-take-le c.args.used c.args.runs.now c.requires)
 
 pub returns-then-not-is_steady : goal.returns-then-not-is_steady
-returns-then-not-is_steady c = let start = c.before in sym (open_bad start.args.n start.args.runs.now start.args.used start.requires c.if-used-eq0.false (sym c.is_steady.ensures ∙ not-true _ (ap (λ (b : Bool). not b) c.if-not-is_steady.true)))
+returns-then-not-is_steady c = sym (open_bad c.args.n c.args.runs.now c.args.used c.requires c.if-used-eq0.false (sym c.is_steady.ensures ∙ not-true _ (ap (λ (b : Bool). not b) c.if-not-is_steady.true)))
 
 pub returns : goal.returns
-returns c = let start = c.before in ap (λ (x : ℕ). ltb x start.args.n) c.offset.ensures ∙ sym (open_last start.args.n start.args.runs.now start.args.used start.requires c.if-used-eq0.false (sym c.is_steady.ensures ∙ not-false _ (ap (λ (b : Bool). not b) c.if-not-is_steady.false)))
+returns c = ap (λ (x : ℕ). ltb x c.args.n) c.offset.ensures ∙ sym (open_last c.args.n c.args.runs.now c.args.used c.requires c.if-used-eq0.false (sym c.is_steady.ensures ∙ not-false _ (ap (λ (b : Bool). not b) c.if-not-is_steady.false)))

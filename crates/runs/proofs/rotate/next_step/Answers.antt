@@ -11,6 +11,7 @@ use Rattle.runs.proofs.Laws.Orders.{taken, run_begins as begins-at}
 use Rattle.runs.proofs.Laws.Reverse.{oriented_long, oriented_steady}
 use Rattle.runs.proofs.Laws.Cursor.{pass_none, pass_same}
 use Rattle.runs.proofs.rotate.next_step.Goals as goal
+use Rattle.runs.proofs.rotate.next_step.Goals.{then-q+else-begins_at, else-q}
 
 pub loop-j-init : goal.loop-j-init
 loop-j-init c = (omega arith, c.requires.2, refl)
@@ -46,7 +47,10 @@ loop-j-preserved c =
     let more : j < length os + length os = omega arith in
     let e = c.part_at-q.ensures in
     let on : runs_from_step n p os j c.args.colour ≡ runs_from_step n p os (j + 1) c.args.colour =
-    ⊎_elim (λ w. pass_same n p os s c.requires.1 j c.args.colour more (ap₂ (λ (x y : ℕ). begins x c.args.colour y) (sym e.starts) (sym e.coloured) ∙ via w.1.ensures w.2.left)) (λ w. pass_none n p os s c.requires.1 j c.args.colour more (omega (arith, e.starts, e.ends, w.left))) c.if-q.branch
+    elim c.if-q.branch [
+      | then-q+else-begins_at w ↦ pass_same n p os s c.requires.1 j c.args.colour more (ap₂ (λ (x y : ℕ). begins x c.args.colour y) (sym e.starts) (sym e.coloured) ∙ via w.begins_at.ensures w.if-begins_at.false)
+      | else-q w ↦ pass_none n p os s c.requires.1 j c.args.colour more (omega (arith, e.starts, e.ends, w.if-q.false))
+    ]
     in
     (omega (arith, c.loop-j.invariant.0), omega arith, c.loop-j.invariant.2 ∙ on)
 

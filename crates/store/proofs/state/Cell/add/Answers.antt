@@ -5,7 +5,7 @@ use Rattle.store.proofs.Laws.Adding.{add_ready}
 use Rattle.store.proofs.state.Cell.add.Goals as goal
 
 pub file_set-requires : goal.file_set-requires
-file_set-requires c = add_ready _ _ _ _ _ _ _ _ c.before.before.requires c.add_gate.ensures c.in-Go.is
+file_set-requires c = add_ready _ _ _ _ _ _ _ _ c.requires c.add_gate.ensures c.in-Go.is
 
 pub returns-in-Refuse : goal.returns-in-Refuse
 unfolding add_cell

@@ -5,7 +5,7 @@ use Rattle.store.proofs.Laws.Tested.{by_gate_lem}
 use Rattle.store.proofs.state.Cell.join.Goals as goal
 
 pub join_piece-requires : goal.join_piece-requires
-join_piece-requires c = join_ready _ _ _ _ _ _ _ _ _ c.before.before.requires c.join_gate.ensures c.in-Go.is
+join_piece-requires c = join_ready _ _ _ _ _ _ _ _ _ c.requires c.join_gate.ensures c.in-Go.is
 
 pub returns-in-Refuse : goal.returns-in-Refuse
 unfolding join_cell
