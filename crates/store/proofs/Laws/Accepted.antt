@@ -85,7 +85,7 @@ grown_sets p (add ids) us = append_assoc p.cell.S (ids ∷ []) (sets_in us)
 grown_sets p (join n reversed piece) us = refl
 grown_sets p (close way) us = rw (close_sets p way p.cell.current)
 
-sets_step : {p q : Plain} {i : ℕ} {u : Update} {x y : List (ℕ × Update)} → Taken p i u q x y → (final : List (List ℕ)) → final ≡ q.cell.S ++ sets_in y → final ≡ p.cell.S ++ sets_in x
+sets_step : {p : Plain} {i : ℕ} {u : Update} {q : Plain} {x y : List (ℕ × Update)} → Taken p i u q x y → (final : List (List ℕ)) → final ≡ q.cell.S ++ sets_in y → final ≡ p.cell.S ++ sets_in x
 unfolding accepted
 sets_step passed final h = h
 sets_step {p} {u = u} (taking {y} n go) final h = h ∙ grown_sets p u y
@@ -119,7 +119,7 @@ first_done p (add ids) us h (suc j) l =
 first_done p (join n reversed piece) us h j l = h j l
 first_done p (close way) us h j l = ap (λ (S : List (List ℕ)). set_for (coordinate_of p.cell.W (length S + j)) us) (sym (close_sets p way p.cell.current)) ∙ h j l
 
-first_step : {p q : Plain} {i : ℕ} {u : Update} {x y : List (ℕ × Update)} → Taken p i u q x y → Firsts q.cell.W (length q.cell.S) y → Firsts p.cell.W (length p.cell.S) x
+first_step : {p : Plain} {i : ℕ} {u : Update} {q : Plain} {x y : List (ℕ × Update)} → Taken p i u q x y → Firsts q.cell.W (length q.cell.S) y → Firsts p.cell.W (length p.cell.S) x
 unfolding accepted
 first_step passed h = h
 first_step {p} {u = u} (taking {y} n go) h = first_done p u y h
@@ -137,7 +137,7 @@ pub record Once (updates : ℕ → Update) (last final : ℕ) (us : List (ℕ ×
   pub sum : final ≡ last + m
   pub those : map update_of us ≡ updates_from updates (last + 1) m
 
-once_step : {p q : Plain} {i : ℕ} (updates : ℕ → Update) {x y : List (ℕ × Update)} (final : ℕ) → Taken p i (updates i) q x y → Once updates q.cell.last final y → Once updates p.cell.last final x
+once_step : {p : Plain} {i : ℕ} (updates : ℕ → Update) {q : Plain} {x y : List (ℕ × Update)} (final : ℕ) → Taken p i (updates i) q x y → Once updates q.cell.last final y → Once updates p.cell.last final x
 unfolding accepted updates_from
 once_step updates final passed h = h
 once_step updates final (taking n go) h =

@@ -12,7 +12,7 @@ use Rattle.base.proofs.Bools.{or_none}
 use Rattle.runs.specs.Orders.{sharp}
 use Rattle.runs.proofs.Laws.Orders.{sharp_yes}
 use Rattle.runs.proofs.Laws.Reverse.{oriented_long}
-use Rattle.store.specs.Demand.{LentCall, accepted_from, all_seen, line_runs, sent, showing, updating, with_piece}
+use Rattle.store.specs.Demand.{store_step, LentCall, accepted_from, all_seen, line_runs, sent, showing, updating, with_piece}
 use Rattle.store.specs.Join.{all_named}
 use Rattle.store.specs.Plain.{Plain, Unitig, Update, Way, accept, accepted, add, close, close_effect, close_tests, cycle, effect, filed, inner_starts, join, join_tests, joined, line, new_count, no_unitig, piece_of, plain_run, plain_step, tests}
 use Rattle.store.specs.State.{Bufs}
@@ -106,6 +106,7 @@ lined_step {p} r {i = i} (close way) final (taking {y} n go) h = close_lined p i
 
 pub lined_run : {p : Plain} {s : Store} {b : Bufs} → Rep p s b → (cs : List LentCall) → Lined p (plain_run p (map sent cs)).1.closed (acc p cs)
 unfolding plain_run all_seen accepted_from line_runs plain_step sent
-lined_run {p} r [] = record { more = []; are = sym (append-nil p.closed); counts = λ j m e. absurd (none_some m e) }
-lined_run r (showing k v out ∷ cs) = lined_run r cs
-lined_run {p} r (updating i u ∷ cs) = lined_step r u _ (taken p i u cs) (lined_run (step_ok r (updating i u)).rep cs)
+lined_run {p = p} {s = s} {b = b} r [] = record { more = []; are = sym (append-nil p.closed); counts = λ j m e. absurd (none_some m e) }
+lined_run {p = p} {s = s} {b = b} r (showing k v out ∷ cs) = lined_run {p = p} {s = s} {b = b} r cs
+lined_run {p = p} {s = s} {b = b} r (updating i u ∷ cs) =
+    lined_step r u _ (taken p i u cs) (lined_run {p = (plain_step p (sent (updating i u))).1} {s = (store_step s b (updating i u)).1} {b = (store_step s b (updating i u)).2} (step_ok r (updating i u)).rep cs)

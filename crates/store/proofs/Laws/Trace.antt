@@ -66,8 +66,8 @@ pub record Ran (cs : List LentCall) (x : List Seen × Store × Bufs) (y : List R
 
 pub run_ok : {p : Plain} {s : Store} {b : Bufs} → Rep p s b → (cs : List LentCall) → Ran cs (store_run s b cs) (plain_run p (map sent cs))
 unfolding store_run plain_run all_seen
-run_ok r [] = record { answers = refl; rep = r }
-run_ok r (c ∷ cs) =
+run_ok {p = p} {s = s} {b = b} r [] = record { answers = refl; rep = r }
+run_ok {p = p} {s = s} {b = b} r (c ∷ cs) =
     let k = step_ok r c in
-    let t = run_ok k.rep cs in
+    let t = run_ok {p = (plain_step p (sent c)).1} {s = (store_step s b c).1} {b = (store_step s b c).2} k.rep cs in
     record { answers = rw (k.same, t.answers); rep = t.rep }

@@ -2,10 +2,6 @@ use borrow.Author.Rules.{rules}
 use Rattle.store.proofs.Laws.Showing.{start_uncolored, start_colored}
 use Rattle.store.proofs.state.Cell.colored_start.Goals as goal
 
-record-start-requires : tie.Need-record-start-requires
-
-record-start-requires c κs = search rules
-
 pub returns-in-At : goal.returns-in-At
 returns-in-At c = search (start_colored)
 

@@ -2,10 +2,6 @@ use borrow.Author.Rules.{rules}
 use Rattle.store.proofs.Laws.Adding.{named_sets, start_within}
 use Rattle.store.proofs.state.Cell.names_set.Goals as goal
 
-record-start-requires : tie.Need-record-start-requires
-
-record-start-requires c κs = search rules
-
 pub reads_to-requires : goal.reads_to-requires
 reads_to-requires c = search (start_within, rules)
 

@@ -14,16 +14,3 @@ returns-then-self-at c = search record_starts
 
 pub returns : goal.returns
 returns c = search record_starts
-
-pub record-start-spec : {M : Type 1} → statement M
-
-record-start-spec =
-    tie.close
-    (tie.spec
-    unnamed-requires
-    returns
-    place-requires
-    mul_at
-    shared-slice-read-at
-    returns-2
-    returns-3)
