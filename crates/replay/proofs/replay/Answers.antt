@@ -40,22 +40,22 @@ one-t-requires c =
     (omega (arith, v.inside, v.shown), r.0, r.1)
 
 pub offset_bounds-refusals-i : goal.offset_bounds-refusals-i
-offset_bounds-refusals-i c = omega (arith, c.loop-i-test.true, c.loop-i.invariant, c.well-formed.1.1.1.1.1.1.1.1.1.1.0.1)
+offset_bounds-refusals-i c = omega (arith, c.loop-i-test.true, c.loop-i.invariant)
 
 pub bounds-refusals-i : goal.bounds-refusals-i
 bounds-refusals-i c = omega (arith, c.loop-i-test.true, c.loop-i.invariant)
 
 pub offset_bounds-answers-i : goal.offset_bounds-answers-i
-offset_bounds-answers-i c = omega (arith, c.loop-i-test.true, c.loop-i.invariant, c.well-formed.1.1.1.1.1.1.1.1.1.1.1.0.1)
+offset_bounds-answers-i c = omega (arith, c.loop-i-test.true, c.loop-i.invariant)
 
 pub bounds-answers-i : goal.bounds-answers-i
 bounds-answers-i c = omega (arith, c.loop-i-test.true, c.loop-i.invariant)
 
 pub overflow_add-at : goal.overflow_add-at
-overflow_add-at c = omega (arith, c.room_of-room.ensures.1, c.loop-i.invariant.inside, c.loop-i.invariant.shown, c.well-formed.1.1.1.1.1.1.1.1.1.1.1.1)
+overflow_add-at c = omega (arith, c.room_of-room.ensures.1, c.loop-i.invariant.inside, c.loop-i.invariant.shown)
 
 pub overflow_add-i : goal.overflow_add-i
-overflow_add-i c = omega (arith, c.loop-i-test.true, c.loop-i.invariant, c.well-formed.1.1.1.1.1.1.1.1.1.1.0.1)
+overflow_add-i c = omega (arith, c.loop-i-test.true, c.loop-i.invariant)
 
 pub loop-i-preserved : goal.loop-i-preserved
 loop-i-preserved c =
@@ -69,15 +69,15 @@ loop-i-preserved c =
       n_calls = v.n_calls;
       n_refusals = v.n_refusals;
       n_answers = v.n_answers;
-      records = c.one-t.auto.1.1.1.1.1.1.0 ∙ v.records;
-      index = c.one-t.auto.1.1.1.1.1.1.1.0 ∙ v.index;
-      opened = c.one-t.auto.1.1.1.1.1.1.1.1.0 ∙ v.opened;
-      held = c.one-t.auto.1.1.1.1.1.1.1.1.1.0 ∙ v.held;
-      runs = c.one-t.auto.1.1.1.1.1.1.1.1.1.1.0 ∙ v.runs;
-      table = c.one-t.auto.1.1.1.1.1.1.1.1.1.1.1.0 ∙ v.table;
+      records = c.one-t.auto.records ∙ v.records;
+      index = c.one-t.auto.index ∙ v.index;
+      opened = c.one-t.auto.opened ∙ v.opened;
+      held = c.one-t.auto.held ∙ v.held;
+      runs = c.one-t.auto.runs ∙ v.runs;
+      table = c.one-t.auto.table ∙ v.table;
       refusals = simp length-set v.refusals;
       answers = simp length-set v.answers;
-      shown = c.one-t.auto.1.1.1.1.1.1.1.1.1.1.1.1.0 ∙ v.shown;
+      shown = c.one-t.auto.shown ∙ v.shown;
       inside = omega (arith, r.1, v.inside, v.shown);
       places = lent_next _ _ _ _ c.loop-i.i _ _ _ v.inside v.places h w;
       done = keep_more _ _ _ _ _ _ _ _ c.loop-i.i _ _ _ (omega arith) (omega arith) v.inside v.places h w _ _ _ _ _ _ _ _ v.done c.one-t.ensures;
