@@ -12,7 +12,7 @@ use lib.Dec.{eqb}
 use borrow.Author.Tests.{eq-eqb, ne_eqb}
 use Rattle.codec.specs.Bits.{digit}
 use Rattle.codec.specs.Codes.{delta, got, read_delta}
-use Rattle.codec.specs.Sets.{Within, past, map_bits, ids_of, absent, gap_bits}
+use Rattle.codec.specs.Sets.{Within, map_bits, ids_of, absent, gap_bits}
 use Rattle.codec.specs.Inside.Gaps.{coded_ids, absent_from, coded_from, Ahead, up_in, Skipped, Gave}
 use Rattle.codec.specs.declared.gaps.Cursor.{Cursor}
 use Rattle.codec.specs.declared.gaps.NextId.TheVariants.{Id, End}

@@ -14,7 +14,7 @@ use Rattle.base.proofs.Parts.{length_over, over_behind, tail_is, put_tail}
 use Rattle.codec.specs.Bits.{low_bits, bits_of, pack_bits, bytes_for, AreBytes}
 use Rattle.codec.specs.Codes.{delta}
 use Rattle.codec.specs.Prefix.{prefix_of}
-use Rattle.codec.specs.Sets.{Within, absent, map_bits, gap_bits, Regime, empty, sparse, bitmap, dense, regime, body_bits, set_bits, encode_set}
+use Rattle.codec.specs.Sets.{Within, map_bits, gap_bits, Regime, regime, body_bits, set_bits, encode_set}
 use Rattle.codec.specs.Inside.Gaps.{coded_ids}
 use Rattle.codec.specs.Inside.Payloads.{regime_of}
 use Rattle.codec.specs.Records.{bad_colors, record_of}

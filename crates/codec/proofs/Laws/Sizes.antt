@@ -9,7 +9,7 @@ use lib.Dec.{ltb}
 use borrow.Author.Tests.{ltb-true, ltb-false}
 use Rattle.codec.specs.Bits.{pack_bits, pack_bytes, bytes_for}
 use Rattle.codec.specs.Codes.{delta}
-use Rattle.codec.specs.Sets.{Within, map_bits, absent, gap_bits, Regime, empty, sparse, bitmap, dense, regime, body_bits, set_bits, encode_set}
+use Rattle.codec.specs.Sets.{Within, absent, gap_bits, Regime, empty, sparse, bitmap, dense, regime, body_bits, set_bits, encode_set}
 use Rattle.codec.proofs.Laws.Bits.{delta_short}
 use Rattle.codec.proofs.Laws.Sets.{length_map_bits, absent_within, absent_count}
 

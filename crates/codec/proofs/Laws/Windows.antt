@@ -11,7 +11,7 @@ use lib.Seq.{drop-cons, drop_at, take_at, drop-drop, take-append-le, drop-append
 use lib.Count.{count_trailing_zeros, under}
 use lib.Pow.{pow_pos}
 use Rattle.codec.specs.Bits.{low_bits, value_of, bits_of}
-use Rattle.codec.specs.Codes.{high_bit, gamma, delta, Read, got, end, read_delta}
+use Rattle.codec.specs.Codes.{high_bit, gamma, delta, got, read_delta}
 use Rattle.codec.specs.Inside.Windows.{Window}
 use Rattle.codec.specs.Inside.Places.{ReadCodeAt}
 use Rattle.codec.specs.declared.codes.ReadCode.TheVariants.{Value}

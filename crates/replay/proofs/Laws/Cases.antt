@@ -11,7 +11,7 @@ use borrow.Rule.Slice.PartMut.{mid_of, put_mid}
 use Rattle.base.specs.Tests.{◌when◌else◌}
 use Rattle.base.specs.Answers.{Answer, refused, done, number_of, of_made}
 use Rattle.base.specs.declared.Refusal.{Refusal}
-use Rattle.store.specs.Plain.{Update, add, join, close, line, cycle}
+use Rattle.store.specs.Plain.{Update, add, join}
 use Rattle.store.specs.State.{Bufs, lengths_of, Outcome, of_answer}
 use Rattle.store.specs.Start.{start_step, bad_limits, bad_lengths, fresh, no_store, zeroed}
 use Rattle.store.specs.Add.{add_step}

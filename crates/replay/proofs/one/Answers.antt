@@ -1,5 +1,3 @@
-use mathlib.Core.Path.{refl}
-use borrow.Author.Rules.{rules}
 use Rattle.replay.proofs.Laws.Cases.{case_add, case_join, case_line, case_cycle, case_show}
 use Rattle.replay.proofs.one.Goals as goal
 

@@ -1,4 +1,3 @@
-use borrow.Author.Rules.{rules}
 use Rattle.replay.proofs.Laws.Cases.{told_add}
 use Rattle.replay.proofs.one_add.Goals as goal
 

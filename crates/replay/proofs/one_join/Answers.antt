@@ -1,4 +1,3 @@
-use borrow.Author.Rules.{rules}
 use Rattle.replay.proofs.Laws.Cases.{told_join}
 use Rattle.replay.proofs.one_join.Goals as goal
 

@@ -1,4 +1,3 @@
-use borrow.Author.Rules.{rules}
 use Rattle.replay.proofs.Laws.Cases.{told_show}
 use Rattle.replay.proofs.one_show.Goals as goal
 

@@ -2,10 +2,8 @@ use Prim.Native.Nat.{◌-◌}
 use mathlib.Core.Path.{◌≡◌, refl, ◌∙◌}
 use native.Mathlib.Omega.{arith}
 use lib.ListN.{length, length-set}
-use borrow.Author.Rules.{rules}
-use Rattle.store.specs.State.{bufs}
-use Rattle.replay.specs.Tape.{room_of, tape, replay_step}
-use Rattle.replay.proofs.Laws.Turns.{Turned, keep_none, lent_zero, lent_next, keep_more}
+use Rattle.replay.specs.Tape.{room_of, replay_step}
+use Rattle.replay.proofs.Laws.Turns.{keep_none, lent_zero, lent_next, keep_more}
 use Rattle.replay.proofs.replay.Goals as goal
 
 pub loop-i-init : goal.loop-i-init

@@ -1,11 +1,7 @@
 use Prim.Native.Nat.{◌-◌}
-use mathlib.Core.Path.{◌≡◌, refl, ◌∙◌}
-use native.Mathlib.Omega.{arith}
-use lib.ListN.{length, length-set}
-use borrow.Author.Rules.{rules}
 use Rattle.store.specs.State.{bufs}
-use Rattle.replay.specs.Tape.{room_of, tape, replay_step}
-use Rattle.replay.proofs.Laws.Turns.{Turned, keep_none, lent_zero, lent_next, keep_more}
+use Rattle.replay.specs.Tape.{tape}
+use Rattle.replay.proofs.Laws.Turns.{Turned}
 use Rattle.replay.proofs.replay.Given as goal
 
 abbrev pub invariant-loop-i : goal.invariant-loop-i

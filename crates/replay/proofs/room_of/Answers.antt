@@ -1,4 +1,3 @@
-use borrow.Author.Rules.{rules}
 use Rattle.replay.proofs.Laws.Cases.{room_none, room_some}
 use Rattle.replay.proofs.room_of.Goals as goal
 

@@ -1,6 +1,5 @@
 -- `replay::session` meets its contract.
-use mathlib.Core.Path.{refl, ◌∙◌}
-use borrow.Author.Rules.{rules}
+use mathlib.Core.Path.{refl}
 use Rattle.store.specs.State.{bufs}
 use Rattle.replay.proofs.Laws.Cases.{start_kept, session_ran}
 use Rattle.replay.proofs.session.Goals as goal

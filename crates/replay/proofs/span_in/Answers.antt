@@ -1,4 +1,3 @@
-use borrow.Author.Rules.{rules}
 use Rattle.replay.proofs.Laws.Cases.{span_is}
 use Rattle.replay.proofs.span_in.Goals as goal
 

@@ -1,4 +1,3 @@
-use borrow.Author.Rules.{rules}
 use Rattle.replay.proofs.tell.Goals as goal
 
 pub returns : goal.returns

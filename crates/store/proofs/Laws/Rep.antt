@@ -1,12 +1,11 @@
 -- What ties the plain store to the state and the buffers: of a cell, of the shared part, of both.
 use Prim.Native.Nat.{ℕ, ◌+◌, ◌*◌, ◌≤◌, ◌<◌}
 use mathlib.Core.Path.{◌≡◌, refl}
-use mathlib.Core.Bool.{Bool, true, false, not}
+use mathlib.Core.Bool.{Bool, true, false}
 use mathlib.Core.List.{List, [], map}
 use mathlib.Core.Option.{Option, none, some}
 use native.Mathlib.Omega.{arith}
 use lib.ListN.{length, get_or, take}
-use lib.Dec.{eqb}
 use borrow.Author.Tests.{le-ltb, ne_eqb, eq-eqb}
 use Rattle.base.proofs.All.{All}
 use Rattle.base.proofs.Bools.{or_false, not_no}

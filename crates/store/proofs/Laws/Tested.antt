@@ -1,10 +1,9 @@
 -- The cases of the tests that every call begins with, as `search` looks for them.
 use Prim.Native.Nat.{ℕ, ◌+◌, ◌-◌, ◌≤◌, ◌<◌}
 use mathlib.Core.Path.{◌≡◌, refl, sym}
-use mathlib.Core.Bool.{Bool, true, false, not, ◌||◌}
+use mathlib.Core.Bool.{Bool, true, false, ◌||◌}
 use mathlib.Core.List.{[], ◌∷◌}
 use native.Mathlib.Omega.{arith}
-use lib.ListN.{set}
 use borrow.Author.Tests.{eq-eqb, ne_eqb, eqb-true, eqb-false, not-false, ltb-false}
 use Rattle.base.specs.Answers.{Answer, done, refused, number_of, of_made, of_written}
 use Rattle.base.specs.Tests.{◌when◌else◌}

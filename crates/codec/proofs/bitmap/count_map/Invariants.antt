@@ -1,17 +1,9 @@
 -- `bitmap::count_map` meets its contract.
-use Prim.Native.Nat.{ℕ, ◌≤◌, ◌-◌, ◌+◌}
-use mathlib.Core.Path.{◌≡◌, refl, sym, ap, ◌∙◌}
-use mathlib.Core.Bool.{Bool}
-use mathlib.Core.List.{List}
-use native.Mathlib.Omega.{arith}
-use borrow.Author.Rules.{rules}
-use lib.Count.{ones, ones-le}
-use lib.ListN.{length, take, drop, length-append, length-drop}
-use lib.Seq.{drop-drop}
-use Rattle.codec.specs.Bits.{bits_of, value_of}
+use Prim.Native.Nat.{◌≤◌, ◌-◌}
+use mathlib.Core.Path.{◌≡◌}
+use lib.ListN.{length, take, drop}
+use Rattle.codec.specs.Bits.{bits_of}
 use Rattle.codec.specs.Sets.{ids_of}
-use Rattle.codec.proofs.Laws.Low.{length_bits}
-use Rattle.codec.proofs.Laws.Chunks.{ids_chunk, count_ids}
 use Rattle.codec.proofs.bitmap.count_map.Given as goal
 
 abbrev pub invariant-loop-base : goal.invariant-loop-base

@@ -1,18 +1,11 @@
 -- `bitmap::fill_chunk` meets its contract.
-use Prim.Native.Nat.{ℕ, suc, ◌*◌, ◌%◌, ◌≤◌, ◌-◌, ◌<◌, ◌+◌, ◌^◌}
-use mathlib.Core.Path.{◌≡◌, refl, sym, ap, ◌∙◌}
-use mathlib.Core.List.{List, [], ◌++◌, ◌∷◌, append_assoc, append-nil}
-use native.Mathlib.Omega.{arith}
-use borrow.Author.Rules.{rules}
-use lib.ListN.{length, take, set, length-set, length-append}
-use lib.Pow.{pow_pos}
-use lib.Count.{count_trailing_zeros}
+use Prim.Native.Nat.{ℕ, ◌<◌, ◌+◌, ◌^◌}
+use mathlib.Core.Path.{◌≡◌}
+use mathlib.Core.List.{List, ◌++◌}
+use lib.ListN.{length, take}
 use Rattle.base.specs.Parts.{over}
 use Rattle.codec.specs.Bits.{low_bits}
 use Rattle.codec.specs.Sets.{ids_of}
-use Rattle.codec.proofs.Laws.Filled.{over_start, over_next}
-use Rattle.codec.proofs.Laws.Low.{one_shl}
-use Rattle.codec.proofs.Laws.Chunks.{Lowest, lowest, low_none}
 use Rattle.codec.proofs.bitmap.fill_chunk.Given as goal
 
 abbrev pub invariant-loop-left : goal.invariant-loop-left

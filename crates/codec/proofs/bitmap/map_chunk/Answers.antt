@@ -1,8 +1,7 @@
 use Prim.Native.Nat.{◌+◌, ◌-◌, ◌*◌, ◌%◌, ◌^◌, ◌≤◌}
-use mathlib.Core.Path.{ap}
 use native.Mathlib.Nat.{lt_of_lt_of_le}
 use native.Mathlib.Omega.{arith}
-use lib.ListN.{length, get_or}
+use lib.ListN.{get_or}
 use lib.Pow.{pow_mono}
 use Rattle.codec.proofs.Laws.Bits.{shift_fits}
 use Rattle.codec.proofs.Laws.Bitmaps.{Chunked, chunk_start, chunk_above, chunk_next, chunk_end}

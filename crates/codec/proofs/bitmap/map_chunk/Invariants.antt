@@ -1,12 +1,7 @@
 -- `codec::bitmap::map_chunk` meets its contract. The loop's invariant: the ids passed are the word's bits.
-use Prim.Native.Nat.{◌+◌, ◌-◌, ◌*◌, ◌%◌, ◌^◌, ◌≤◌}
-use mathlib.Core.Path.{ap}
-use native.Mathlib.Nat.{lt_of_lt_of_le}
-use native.Mathlib.Omega.{arith}
-use lib.ListN.{length, get_or}
-use lib.Pow.{pow_mono}
-use Rattle.codec.proofs.Laws.Bits.{shift_fits}
-use Rattle.codec.proofs.Laws.Bitmaps.{Chunked, chunk_start, chunk_above, chunk_next, chunk_end}
+use Prim.Native.Nat.{◌-◌}
+use lib.ListN.{length}
+use Rattle.codec.proofs.Laws.Bitmaps.{Chunked}
 use Rattle.codec.proofs.bitmap.map_chunk.Given as goal
 
 abbrev pub invariant-loop-k : goal.invariant-loop-k

@@ -1,4 +1,4 @@
-use Prim.Native.Nat.{ℕ, ◌+◌, ◌-◌}
+use Prim.Native.Nat.{ℕ, ◌+◌}
 use mathlib.Core.Path.{◌≡◌, sym, ap, ◌∙◌}
 use mathlib.Core.Bool.{Bool}
 use mathlib.Core.List.{List, [], ◌++◌, append_assoc}
@@ -8,7 +8,7 @@ use Rattle.codec.specs.Bits.{bits_of, low_bits}
 use Rattle.codec.specs.Sets.{map_bits}
 use Rattle.codec.proofs.Laws.Low.{length_bits}
 use Rattle.codec.proofs.Laws.Sets.{length_map_bits}
-use Rattle.codec.proofs.Laws.Bitmaps.{Mapping, mapping_start, mapping_next, mapping_end, mapping_read, bits_by_value}
+use Rattle.codec.proofs.Laws.Bitmaps.{mapping_start, mapping_next, mapping_end, mapping_read, bits_by_value}
 use Rattle.codec.proofs.bitmap.same_map.Goals as goal
 
 pub returns-then-bytes-at : goal.returns-then-bytes-at

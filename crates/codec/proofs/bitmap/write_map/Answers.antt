@@ -1,12 +1,9 @@
-use Prim.Native.Nat.{◌+◌, ◌-◌}
 use mathlib.Core.Path.{sym, subst}
-use mathlib.Core.Bool.{Bool}
-use mathlib.Core.List.{List, [], ◌++◌}
+use mathlib.Core.List.{[], ◌++◌}
 use native.Mathlib.Omega.{arith}
-use lib.ListN.{length}
 use Rattle.codec.specs.Bits.{low_bits}
 use Rattle.codec.specs.Inside.Writers.{Wrote}
-use Rattle.codec.proofs.Laws.Bitmaps.{Mapping, mapping_start, mapping_next, mapping_end, mapping_count}
+use Rattle.codec.proofs.Laws.Bitmaps.{mapping_start, mapping_next, mapping_end, mapping_count}
 use Rattle.codec.proofs.Laws.Writers.{wrote_none, wrote_then, ready_after}
 use Rattle.codec.proofs.bitmap.write_map.Goals as goal
 

@@ -1,14 +1,9 @@
 -- `codec::bitmap::write_map` meets its contract. The loop's invariant: the bits below `base` are written.
-use Prim.Native.Nat.{◌+◌, ◌-◌}
-use mathlib.Core.Path.{sym, subst}
+use Prim.Native.Nat.{◌-◌}
 use mathlib.Core.Bool.{Bool}
-use mathlib.Core.List.{List, [], ◌++◌}
-use native.Mathlib.Omega.{arith}
-use lib.ListN.{length}
-use Rattle.codec.specs.Bits.{low_bits}
+use mathlib.Core.List.{List}
 use Rattle.codec.specs.Inside.Writers.{Wrote}
-use Rattle.codec.proofs.Laws.Bitmaps.{Mapping, mapping_start, mapping_next, mapping_end, mapping_count}
-use Rattle.codec.proofs.Laws.Writers.{wrote_none, wrote_then, ready_after}
+use Rattle.codec.proofs.Laws.Bitmaps.{Mapping}
 use Rattle.codec.proofs.bitmap.write_map.Given as goal
 
 abbrev pub invariant-loop-base : goal.invariant-loop-base

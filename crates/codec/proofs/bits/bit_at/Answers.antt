@@ -4,7 +4,6 @@ use native.Mathlib.Omega.{arith}
 use lib.ListN.{get_or}
 use Rattle.codec.specs.Bits.{digit}
 use Rattle.codec.proofs.Laws.Low.{bit_of, digit_is_one}
-use borrow.Author.Rules.{rules}
 use Rattle.codec.proofs.bits.bit_at.Goals as goal
 
 pub returns : goal.returns

@@ -8,7 +8,6 @@ use lib.Pow.{pow_pos}
 use Rattle.codec.specs.Bits.{bits_of}
 use Rattle.codec.proofs.Laws.Low.{length_bits, one_shl}
 use Rattle.codec.proofs.Laws.Windows.{window, window_value}
-use borrow.Author.Rules.{rules}
 use Rattle.codec.proofs.bits.bits_at.Goals as goal
 
 -- src/bits.rt:92:5

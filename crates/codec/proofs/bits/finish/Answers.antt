@@ -1,12 +1,11 @@
-use Prim.Native.Nat.{ℕ, ◌+◌, ◌-◌, ◌*◌, ◌%◌, ◌^◌, ◌≤◌, ◌<◌}
+use Prim.Native.Nat.{ℕ, ◌+◌, ◌-◌, ◌%◌, ◌^◌, ◌≤◌, ◌<◌}
 use mathlib.Core.Path.{◌≡◌, refl, sym, ap, ap₂, ◌∙◌, subst}
 use mathlib.Core.List.{List, ◌++◌}
 use native.Mathlib.Omega.{arith}
-use borrow.Author.Rules.{rules}
 use lib.ListN.{length, take, drop, set, length-set, take-append-drop}
 use lib.Seq.{drop-set-lt, drop-drop, length-take-le}
 use lib.Pow.{shr_lt}
-use Rattle.codec.specs.Bits.{bits_of, low_bits, pack_bits, AreBytes}
+use Rattle.codec.specs.Bits.{bits_of, low_bits, pack_bits}
 use Rattle.codec.proofs.Laws.Bits.{flush, packed_whole, packed_part, bytes_set}
 use Rattle.codec.proofs.bits.finish.Goals as goal
 

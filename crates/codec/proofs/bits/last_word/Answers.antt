@@ -2,7 +2,6 @@
 use Prim.Native.Nat.{ℕ}
 use mathlib.Core.Path.{subst}
 use Rattle.codec.specs.Inside.Windows.{Window}
-use borrow.Author.Rules.{rules}
 use Rattle.codec.proofs.bits.last_word.Goals as goal
 
 pub returns : goal.returns

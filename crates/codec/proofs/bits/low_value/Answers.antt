@@ -1,10 +1,10 @@
-use Prim.Native.Nat.{ℕ, ◌+◌, ◌-◌, ◌*◌, ◌%◌, ◌^◌, ◌≤◌}
+use Prim.Native.Nat.{ℕ, ◌+◌, ◌*◌, ◌%◌, ◌^◌}
 use mathlib.Core.Path.{◌≡◌, refl, ap, ◌∙◌}
 use native.Mathlib.Omega.{arith}
-use lib.ListN.{length, get_or, take, drop}
+use lib.ListN.{get_or, take, drop}
 use lib.Pow.{pow_mono}
 use mathlib.Core.Bool.{false}
-use Rattle.codec.specs.Bits.{bits_of, digit, value_of}
+use Rattle.codec.specs.Bits.{bits_of, value_of}
 use Rattle.codec.proofs.Laws.Low.{length_bits, value_more, value_take_lt, shl_digit, digit_lt}
 use Rattle.codec.proofs.bits.low_value.Goals as goal
 

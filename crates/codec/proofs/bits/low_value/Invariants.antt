@@ -1,12 +1,8 @@
 -- `codec::low_value` meets its contract. The loop's invariant: the value is that of the i bits read.
-use Prim.Native.Nat.{ℕ, ◌+◌, ◌-◌, ◌*◌, ◌%◌, ◌^◌, ◌≤◌}
-use mathlib.Core.Path.{◌≡◌, refl, ap, ◌∙◌}
-use native.Mathlib.Omega.{arith}
-use lib.ListN.{length, get_or, take, drop}
-use lib.Pow.{pow_mono}
-use mathlib.Core.Bool.{false}
-use Rattle.codec.specs.Bits.{bits_of, digit, value_of}
-use Rattle.codec.proofs.Laws.Low.{length_bits, value_more, value_take_lt, shl_digit, digit_lt}
+use Prim.Native.Nat.{◌-◌, ◌≤◌}
+use mathlib.Core.Path.{◌≡◌}
+use lib.ListN.{take, drop}
+use Rattle.codec.specs.Bits.{bits_of, value_of}
 use Rattle.codec.proofs.bits.low_value.Given as goal
 
 abbrev pub invariant-loop-i : goal.invariant-loop-i

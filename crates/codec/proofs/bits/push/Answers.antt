@@ -4,7 +4,7 @@ use mathlib.Core.Path.{◌≡◌, refl, sym, ap, ◌∙◌, subst}
 use mathlib.Core.List.{List, ◌++◌}
 use native.Mathlib.Nat.{add_comm, lt_of_lt_of_le}
 use native.Mathlib.Omega.{arith}
-use lib.ListN.{length, take, drop, set, length-set}
+use lib.ListN.{take, drop, set, length-set}
 use lib.Seq.{drop-set-lt}
 use lib.Pow.{pow_mono, shr_lt}
 use Rattle.codec.specs.Bits.{bits_of, low_bits}
@@ -12,7 +12,6 @@ use Rattle.codec.specs.Inside.Writers.{Ready, Wrote}
 use Rattle.codec.specs.declared.bits.BitWriter.{BitWriter}
 use Rattle.codec.proofs.Laws.Low.{length_low}
 use Rattle.codec.proofs.Laws.Bits.{flush4, joined_lt, shift_fits, put_bits}
-use borrow.Author.Rules.{rules}
 use Rattle.codec.proofs.bits.push.Goals as goal
 
 -- the pending bits with the new ones, as the machine adds them

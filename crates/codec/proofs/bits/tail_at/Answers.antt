@@ -1,8 +1,7 @@
-use Prim.Native.Nat.{ℕ, ◌+◌, ◌-◌, ◌*◌, ◌^◌, ◌≤◌, ◌<◌}
+use Prim.Native.Nat.{ℕ, ◌+◌, ◌-◌, ◌*◌, ◌^◌, ◌<◌}
 use mathlib.Core.Path.{◌≡◌, subst}
 use native.Mathlib.Omega.{arith}
 use native.Mathlib.Nat.{lt_of_lt_of_le}
-use lib.ListN.{length}
 use lib.Pow.{pow_mono}
 use Rattle.codec.proofs.Laws.Windows.{Tail, tail_none, tail_more}
 use Rattle.codec.proofs.bits.tail_at.Goals as goal

@@ -1,11 +1,7 @@
 -- `codec::tail_at` meets its contract. The loop's invariant: the value is that of the bytes from i on.
-use Prim.Native.Nat.{ℕ, ◌+◌, ◌-◌, ◌*◌, ◌^◌, ◌≤◌, ◌<◌}
-use mathlib.Core.Path.{◌≡◌, subst}
-use native.Mathlib.Omega.{arith}
-use native.Mathlib.Nat.{lt_of_lt_of_le}
+use Prim.Native.Nat.{◌≤◌}
 use lib.ListN.{length}
-use lib.Pow.{pow_mono}
-use Rattle.codec.proofs.Laws.Windows.{Tail, tail_none, tail_more}
+use Rattle.codec.proofs.Laws.Windows.{Tail}
 use Rattle.codec.proofs.bits.tail_at.Given as goal
 
 abbrev pub invariant-loop-i : goal.invariant-loop-i

@@ -1,11 +1,9 @@
 -- `codec::window_at` meets its contract.
-use Prim.Native.Nat.{◌-◌}
 use mathlib.Core.Path.{ap}
 use native.Mathlib.Omega.{arith}
-use lib.ListN.{length, drop, drop_of_length-le}
+use lib.ListN.{drop, drop_of_length-le}
 use Rattle.codec.specs.Bits.{bits_of, low_bits}
 use Rattle.codec.proofs.Laws.Windows.{tail_window, word_window}
-use borrow.Author.Rules.{rules}
 use Rattle.codec.proofs.bits.window_at.Goals as goal
 
 -- src/bits.rt:78:9

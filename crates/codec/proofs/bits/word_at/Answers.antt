@@ -3,7 +3,6 @@ use Prim.Native.Nat.{◌+◌}
 use mathlib.Core.Path.{refl}
 use native.Mathlib.Omega.{arith}
 use Rattle.codec.proofs.Laws.Windows.{byte_more, byte_last}
-use borrow.Author.Rules.{rules}
 use Rattle.codec.proofs.bits.word_at.Goals as goal
 
 pub returns : goal.returns

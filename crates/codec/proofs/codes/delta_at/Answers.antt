@@ -1,7 +1,6 @@
 -- `codec::delta_at` meets its contract.
 use mathlib.Core.Path.{subst}
 use native.Mathlib.Omega.{arith}
-use borrow.Author.Rules.{rules}
 use Rattle.codec.specs.Codes.{read_delta, read_gamma, read_low}
 use Rattle.codec.specs.Inside.Places.{ReadCodeAt}
 use Rattle.codec.specs.declared.codes.ReadCode.TheVariants.{Value}

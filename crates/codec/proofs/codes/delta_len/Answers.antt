@@ -1,12 +1,10 @@
 -- `codec::delta_len` meets its contract.
-use Prim.Native.Nat.{ℕ, ◌+◌, ◌-◌, ◌*◌}
+use Prim.Native.Nat.{ℕ, ◌+◌, ◌*◌}
 use mathlib.Core.Path.{sym, ap, ◌∙◌}
 use native.Mathlib.Omega.{arith}
-use lib.ListN.{length}
-use Rattle.codec.specs.Codes.{high_bit, delta}
+use Rattle.codec.specs.Codes.{high_bit}
 use Rattle.codec.proofs.Laws.Codes.{high_leading}
 use Rattle.codec.proofs.Laws.Bits.{length_delta, high_lt}
-use borrow.Author.Rules.{rules}
 use Rattle.codec.proofs.codes.delta_len.Goals as goal
 
 -- src/codes.rt:258:13

@@ -2,7 +2,6 @@
 use mathlib.Core.Path.{refl}
 use native.Mathlib.Omega.{arith}
 use Rattle.codec.proofs.Laws.Windows.{delta_of_lem}
-use borrow.Author.Rules.{rules}
 use Rattle.codec.proofs.codes.delta_of.Goals as goal
 
 pub returns-then-z-gt4 : goal.returns-then-z-gt4

@@ -9,7 +9,6 @@ use Rattle.codec.specs.Codes.{high_bit, gamma, delta}
 use Rattle.codec.specs.Inside.Writers.{SplitOf, CodewordOf}
 use Rattle.codec.specs.declared.codes.Split.{Split}
 use Rattle.codec.proofs.Laws.Bits.{delta_low, high_lt, joined_lt, shift_fits}
-use borrow.Author.Rules.{rules}
 use Rattle.codec.proofs.codes.delta_word.Goals as goal
 
 bit-lt : (v : ℕ) (r : Split) → v ≤ 2 ^ 20 → SplitOf (v + 1) r → r.bit < 21

@@ -5,7 +5,6 @@ use native.Mathlib.Nat.{lt_of_lt_of_le}
 use lib.Pow.{pow_mono}
 use Rattle.codec.proofs.Laws.Bits.{high_lt}
 use Rattle.codec.proofs.Laws.Tables.{gamma_is}
-use borrow.Author.Rules.{rules}
 use Rattle.codec.proofs.codes.gamma_value.Goals as goal
 
 -- src/codes.rt:237:5

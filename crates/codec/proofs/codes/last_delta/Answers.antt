@@ -6,7 +6,6 @@ use lib.ListN.{length}
 use Rattle.codec.specs.Inside.Windows.{CodedIn}
 use Rattle.codec.specs.declared.codes.Coded.TheVariants.{Code}
 use Rattle.codec.proofs.Laws.Windows.{window_found}
-use borrow.Author.Rules.{rules}
 use Rattle.codec.proofs.codes.last_delta.Goals as goal
 
 -- what the last bytes show, the bit place counted from theirs

@@ -9,7 +9,6 @@ use lib.Pow.{pow_pos, pow-lt, pow_mono}
 use Rattle.codec.specs.Bits.{bits_of}
 use Rattle.codec.proofs.Laws.Low.{length_bits, value_take_lt}
 use Rattle.codec.proofs.Laws.Codes.{low_got, low_end, low_large, end_got}
-use borrow.Author.Rules.{rules}
 use Rattle.codec.proofs.codes.low_at.Goals as goal
 
 pub returns-then-b-gt20 : goal.returns-then-b-gt20

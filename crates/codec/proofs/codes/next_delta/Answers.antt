@@ -5,7 +5,6 @@ use native.Mathlib.Omega.{arith}
 use Rattle.codec.specs.Inside.Windows.{CodedIn}
 use Rattle.codec.specs.declared.codes.Coded.TheVariants.{Code}
 use Rattle.codec.proofs.Laws.Windows.{word_window, window_found}
-use borrow.Author.Rules.{rules}
 use Rattle.codec.proofs.codes.next_delta.Goals as goal
 
 -- what the window shows, its bit place counted from the window's

@@ -4,7 +4,6 @@ use mathlib.Core.Bool.{true, false}
 use native.Mathlib.Omega.{arith}
 use lib.ListN.{length, get_or, drop}
 use mathlib.Core.List.{List}
-use borrow.Author.Rules.{rules}
 use Rattle.codec.specs.declared.codes.Zeros.{Zeros}
 use Rattle.codec.specs.declared.codes.Zeros.TheVariants.{Count, End}
 use Rattle.codec.specs.Bits.{bits_of, digit}
@@ -49,10 +48,10 @@ returns-in_default c =
     let at = c.args.at in
     let place = c.loop-place.place in
     let yields : Yields bytes at c.if-bytes-place.zeros =
-        elim c.if-bytes-place.branch [
-          | then-bytes-place w ↦ subst (Yields bytes at) (sym w.zeros-is) (ended bytes at place c.loop-place.invariant w.if-bytes-place.true)
-          | else-bytes-place+then-bit_at-ne0 w ↦ subst (Yields bytes at) (sym w.zeros-is) (counted bytes at place c.loop-place.invariant w.if-bytes-place.false _ w.bit_at.ensures w.if-bit_at-ne0.true)
-        ]
+    elim c.if-bytes-place.branch [
+      | then-bytes-place w ↦ subst (Yields bytes at) (sym w.zeros-is) (ended bytes at place c.loop-place.invariant w.if-bytes-place.true)
+      | else-bytes-place+then-bit_at-ne0 w ↦ subst (Yields bytes at) (sym w.zeros-is) (counted bytes at place c.loop-place.invariant w.if-bytes-place.false _ w.bit_at.ensures w.if-bit_at-ne0.true)
+    ]
     in
     let z = subst (Yields bytes at) c.in_default.is yields in
     λ v rest e. end_got (gamma_end _ z) e
@@ -63,10 +62,10 @@ overflow_add-at c =
     let at = c.args.at in
     let place = c.loop-place.place in
     let yields : Yields bytes at c.if-bytes-place.zeros =
-        elim c.if-bytes-place.branch [
-          | then-bytes-place w ↦ subst (Yields bytes at) (sym w.zeros-is) (ended bytes at place c.loop-place.invariant w.if-bytes-place.true)
-          | else-bytes-place+then-bit_at-ne0 w ↦ subst (Yields bytes at) (sym w.zeros-is) (counted bytes at place c.loop-place.invariant w.if-bytes-place.false _ w.bit_at.ensures w.if-bit_at-ne0.true)
-        ]
+    elim c.if-bytes-place.branch [
+      | then-bytes-place w ↦ subst (Yields bytes at) (sym w.zeros-is) (ended bytes at place c.loop-place.invariant w.if-bytes-place.true)
+      | else-bytes-place+then-bit_at-ne0 w ↦ subst (Yields bytes at) (sym w.zeros-is) (counted bytes at place c.loop-place.invariant w.if-bytes-place.false _ w.bit_at.ensures w.if-bit_at-ne0.true)
+    ]
     in
     let found : Yields bytes at (Count c.in-Count.n) = subst (Yields bytes at) c.in-Count.is yields in
     omega (arith, found.1)
@@ -77,10 +76,10 @@ overflow_add-at-2 c =
     let at = c.args.at in
     let place = c.loop-place.place in
     let yields : Yields bytes at c.if-bytes-place.zeros =
-        elim c.if-bytes-place.branch [
-          | then-bytes-place w ↦ subst (Yields bytes at) (sym w.zeros-is) (ended bytes at place c.loop-place.invariant w.if-bytes-place.true)
-          | else-bytes-place+then-bit_at-ne0 w ↦ subst (Yields bytes at) (sym w.zeros-is) (counted bytes at place c.loop-place.invariant w.if-bytes-place.false _ w.bit_at.ensures w.if-bit_at-ne0.true)
-        ]
+    elim c.if-bytes-place.branch [
+      | then-bytes-place w ↦ subst (Yields bytes at) (sym w.zeros-is) (ended bytes at place c.loop-place.invariant w.if-bytes-place.true)
+      | else-bytes-place+then-bit_at-ne0 w ↦ subst (Yields bytes at) (sym w.zeros-is) (counted bytes at place c.loop-place.invariant w.if-bytes-place.false _ w.bit_at.ensures w.if-bit_at-ne0.true)
+    ]
     in
     let found : Yields bytes at (Count c.in-Count.n) = subst (Yields bytes at) c.in-Count.is yields in
     omega (arith, found.1)
@@ -91,10 +90,10 @@ low_at-requires c =
     let at = c.args.at in
     let place = c.loop-place.place in
     let yields : Yields bytes at c.if-bytes-place.zeros =
-        elim c.if-bytes-place.branch [
-          | then-bytes-place w ↦ subst (Yields bytes at) (sym w.zeros-is) (ended bytes at place c.loop-place.invariant w.if-bytes-place.true)
-          | else-bytes-place+then-bit_at-ne0 w ↦ subst (Yields bytes at) (sym w.zeros-is) (counted bytes at place c.loop-place.invariant w.if-bytes-place.false _ w.bit_at.ensures w.if-bit_at-ne0.true)
-        ]
+    elim c.if-bytes-place.branch [
+      | then-bytes-place w ↦ subst (Yields bytes at) (sym w.zeros-is) (ended bytes at place c.loop-place.invariant w.if-bytes-place.true)
+      | else-bytes-place+then-bit_at-ne0 w ↦ subst (Yields bytes at) (sym w.zeros-is) (counted bytes at place c.loop-place.invariant w.if-bytes-place.false _ w.bit_at.ensures w.if-bit_at-ne0.true)
+    ]
     in
     let found : Yields bytes at (Count c.in-Count.n) = subst (Yields bytes at) c.in-Count.is yields in
     omega (arith, found.1)
@@ -105,10 +104,10 @@ returns c =
     let at = c.args.at in
     let place = c.loop-place.place in
     let yields : Yields bytes at c.if-bytes-place.zeros =
-        elim c.if-bytes-place.branch [
-          | then-bytes-place w ↦ subst (Yields bytes at) (sym w.zeros-is) (ended bytes at place c.loop-place.invariant w.if-bytes-place.true)
-          | else-bytes-place+then-bit_at-ne0 w ↦ subst (Yields bytes at) (sym w.zeros-is) (counted bytes at place c.loop-place.invariant w.if-bytes-place.false _ w.bit_at.ensures w.if-bit_at-ne0.true)
-        ]
+    elim c.if-bytes-place.branch [
+      | then-bytes-place w ↦ subst (Yields bytes at) (sym w.zeros-is) (ended bytes at place c.loop-place.invariant w.if-bytes-place.true)
+      | else-bytes-place+then-bit_at-ne0 w ↦ subst (Yields bytes at) (sym w.zeros-is) (counted bytes at place c.loop-place.invariant w.if-bytes-place.false _ w.bit_at.ensures w.if-bit_at-ne0.true)
+    ]
     in
     let found : Yields bytes at (Count c.in-Count.n) = subst (Yields bytes at) c.in-Count.is yields in
     found_as read_gamma (read_low c.in-Count.n) bytes at (at + c.in-Count.n + 1) c.low_at.result (gamma_from _ _ _ found.0) c.low_at.ensures

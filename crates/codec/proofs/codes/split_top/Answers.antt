@@ -7,7 +7,6 @@ use lib.Count.{count_leading_zeros, leading_top}
 use lib.Pow.{pow-lt}
 use Rattle.codec.specs.Inside.Writers.{SplitOf}
 use Rattle.codec.proofs.Laws.Codes.{Top, high_unique}
-use borrow.Author.Rules.{rules}
 use Rattle.codec.proofs.codes.split_top.Goals as goal
 
 module _ (s : ℕ) (pos : 0 < s) (fits : s < 2 ^ 32) where

@@ -1,7 +1,6 @@
 -- `codec::top_len` meets its contract, by the table's rule.
 use native.Mathlib.Omega.{arith}
 use Rattle.codec.proofs.Laws.Tables.{len_is}
-use borrow.Author.Rules.{rules}
 use Rattle.codec.proofs.codes.top_len.Goals as goal
 
 -- src/codes.rt:229:5

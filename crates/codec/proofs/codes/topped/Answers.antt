@@ -1,10 +1,9 @@
 -- `codec::topped` meets its contract.
-use Prim.Native.Nat.{ℕ, ◌+◌, ◌-◌, ◌*◌, ◌%◌, ◌^◌, ◌≤◌, ◌<◌}
+use Prim.Native.Nat.{ℕ, ◌+◌, ◌*◌, ◌%◌, ◌^◌, ◌≤◌, ◌<◌}
 use mathlib.Core.Path.{◌≡◌, refl}
 use native.Mathlib.Nat.{one-mul, mod-eq_of_lt, mod-lt}
 use native.Mathlib.Omega.{arith}
 use lib.Pow.{pow_pos, pow-lt, pow_mono}
-use borrow.Author.Rules.{rules}
 use Rattle.codec.proofs.codes.topped.Goals as goal
 
 one_shl : (b : ℕ) → b ≤ 20 → 1 * 2 ^ b % 2 ^ 64 ≡ 2 ^ b

@@ -5,7 +5,6 @@ use lib.ListN.{length}
 use Rattle.codec.specs.Codes.{delta}
 use Rattle.codec.specs.Inside.Writers.{Ready, Wrote}
 use Rattle.codec.proofs.Laws.Low.{length_low}
-use borrow.Author.Rules.{rules}
 use Rattle.codec.proofs.codes.write_delta.Goals as goal
 
 pub push-requires : goal.push-requires

@@ -1,10 +1,9 @@
-use Prim.Native.Nat.{ℕ, ◌≤◌, ◌-◌}
+use Prim.Native.Nat.{ℕ}
 use mathlib.Core.Path.{◌≡◌, refl, sym, ap, ◌∙◌}
 use mathlib.Core.List.{List}
 use native.Mathlib.Numerals.{add-one}
 use native.Mathlib.Omega.{arith}
-use borrow.Author.Rules.{rules}
-use lib.ListN.{length, take, set, get_or, length-set}
+use lib.ListN.{take, set, get_or, length-set}
 use lib.Seq.{take-suc, length-take-le}
 use Rattle.base.specs.Parts.{over}
 use Rattle.codec.proofs.Laws.Filled.{over_none, over_set}

@@ -1,7 +1,6 @@
-use Prim.Native.Nat.{ℕ, ◌+◌, ◌-◌, ◌≤◌}
+use Prim.Native.Nat.{ℕ, ◌+◌}
 use mathlib.Core.Path.{◌≡◌, refl, ap, ◌∙◌}
 use native.Mathlib.Omega.{arith}
-use borrow.Author.Rules.{rules}
 use Rattle.codec.specs.Inside.Gaps.{up_in}
 use Rattle.codec.proofs.Laws.Coded.{up_next}
 use Rattle.codec.proofs.gaps.count_up.Goals as goal

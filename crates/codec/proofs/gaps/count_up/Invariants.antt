@@ -1,10 +1,7 @@
 -- `gaps::count_up` meets its contract. The loop's invariant: those of the first `j` ids are counted.
-use Prim.Native.Nat.{ℕ, ◌+◌, ◌-◌, ◌≤◌}
-use mathlib.Core.Path.{◌≡◌, refl, ap, ◌∙◌}
-use native.Mathlib.Omega.{arith}
-use borrow.Author.Rules.{rules}
+use Prim.Native.Nat.{◌-◌, ◌≤◌}
+use mathlib.Core.Path.{◌≡◌}
 use Rattle.codec.specs.Inside.Gaps.{up_in}
-use Rattle.codec.proofs.Laws.Coded.{up_next}
 use Rattle.codec.proofs.gaps.count_up.Given as goal
 
 abbrev pub invariant-loop-j : goal.invariant-loop-j

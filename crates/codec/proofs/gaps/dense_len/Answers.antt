@@ -1,12 +1,12 @@
-use Prim.Native.Nat.{ℕ, ◌+◌, ◌-◌, ◌*◌, ◌≤◌}
-use mathlib.Core.Path.{◌≡◌, refl, sym, ap, ◌∙◌}
-use mathlib.Core.Bool.{Bool, true}
-use mathlib.Core.List.{List, [], ◌++◌}
+use Prim.Native.Nat.{ℕ, ◌+◌, ◌-◌}
+use mathlib.Core.Path.{refl, sym, ap, ◌∙◌}
+use mathlib.Core.Bool.{true}
+use mathlib.Core.List.{[], ◌++◌}
 use native.Mathlib.Omega.{arith}
 use lib.ListN.{length, length-append}
 use Rattle.codec.specs.Codes.{delta}
 use Rattle.codec.specs.Inside.Gaps.{Gave}
-use Rattle.codec.proofs.Laws.Coded.{Coding, coding_start, coding_next, coding_end, gave_absent, gave_no_absent}
+use Rattle.codec.proofs.Laws.Coded.{coding_start, coding_next, coding_end, gave_absent, gave_no_absent}
 use Rattle.codec.specs.declared.gaps.NextId.TheVariants.{Id}
 use Rattle.codec.proofs.gaps.dense_len.Goals as goal
 

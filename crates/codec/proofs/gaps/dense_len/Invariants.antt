@@ -1,14 +1,10 @@
 -- `gaps::dense_len` meets its contract. The loop's invariant: the bits counted are those of the absent ids passed, at most 29 for each number passed.
-use Prim.Native.Nat.{ℕ, ◌+◌, ◌-◌, ◌*◌, ◌≤◌}
-use mathlib.Core.Path.{◌≡◌, refl, sym, ap, ◌∙◌}
+use Prim.Native.Nat.{◌-◌, ◌*◌, ◌≤◌}
+use mathlib.Core.Path.{◌≡◌}
 use mathlib.Core.Bool.{Bool, true}
-use mathlib.Core.List.{List, [], ◌++◌}
-use native.Mathlib.Omega.{arith}
-use lib.ListN.{length, length-append}
-use Rattle.codec.specs.Codes.{delta}
-use Rattle.codec.specs.Inside.Gaps.{Gave}
-use Rattle.codec.proofs.Laws.Coded.{Coding, coding_start, coding_next, coding_end, gave_absent, gave_no_absent}
-use Rattle.codec.specs.declared.gaps.NextId.TheVariants.{Id}
+use mathlib.Core.List.{List}
+use lib.ListN.{length}
+use Rattle.codec.proofs.Laws.Coded.{Coding}
 use Rattle.codec.proofs.gaps.dense_len.Given as goal
 
 abbrev pub invariant-loop-n : goal.invariant-loop-n

@@ -4,7 +4,6 @@ use mathlib.Core.Path.{ap, ◌∙◌}
 use mathlib.Core.List.{List}
 use Rattle.base.specs.Parts.{over}
 use Rattle.codec.proofs.Laws.Gaps.{kept_ids, put_ids}
-use borrow.Author.Rules.{rules}
 use Rattle.codec.proofs.gaps.fill_gaps.Goals as goal
 
 pub returns-then-n-room : goal.returns-then-n-room

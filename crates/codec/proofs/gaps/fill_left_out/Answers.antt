@@ -3,13 +3,11 @@ use Prim.Native.Nat.{ℕ}
 use mathlib.Core.Path.{sym, ap, ◌∙◌, subst}
 use mathlib.Core.List.{List}
 use native.Mathlib.Omega.{arith}
-use lib.ListN.{length}
 use lib.Seq.{length-take-le}
 use Rattle.base.specs.Parts.{over}
 use Rattle.codec.specs.Sets.{Within, absent, ReadIds}
 use Rattle.codec.specs.Inside.Gaps.{Kept}
 use Rattle.codec.proofs.Laws.Sets.{gaps_only}
-use borrow.Author.Rules.{rules}
 use Rattle.codec.proofs.Laws.Gaps.{kept_ids}
 use Rattle.codec.proofs.gaps.fill_left_out.Goals as goal
 

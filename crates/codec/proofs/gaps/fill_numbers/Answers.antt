@@ -2,7 +2,6 @@ use Prim.Native.Nat.{ℕ, ◌≤◌, ◌-◌, ◌<◌, ◌+◌}
 use mathlib.Core.Path.{◌≡◌, refl, ap, ◌∙◌}
 use mathlib.Core.List.{List, [], ◌++◌, ◌∷◌}
 use native.Mathlib.Omega.{arith}
-use borrow.Author.Rules.{rules}
 use lib.ListN.{length, take, set, length-set}
 use Rattle.base.specs.Parts.{over}
 use Rattle.codec.specs.Inside.Gaps.{numbers}

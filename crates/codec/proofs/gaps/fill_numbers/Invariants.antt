@@ -1,14 +1,10 @@
 -- `gaps::fill_numbers` meets its contract.
-use Prim.Native.Nat.{ℕ, ◌≤◌, ◌-◌, ◌<◌, ◌+◌}
-use mathlib.Core.Path.{◌≡◌, refl, ap, ◌∙◌}
-use mathlib.Core.List.{List, [], ◌++◌, ◌∷◌}
-use native.Mathlib.Omega.{arith}
-use borrow.Author.Rules.{rules}
-use lib.ListN.{length, take, set, length-set}
+use Prim.Native.Nat.{◌≤◌, ◌-◌}
+use mathlib.Core.Path.{◌≡◌}
+use mathlib.Core.List.{◌++◌}
+use lib.ListN.{length, take}
 use Rattle.base.specs.Parts.{over}
 use Rattle.codec.specs.Inside.Gaps.{numbers}
-use Rattle.codec.proofs.Laws.Filled.{over_start, over_next}
-use Rattle.codec.proofs.Laws.Gaps.{length_numbers, numbers_more}
 use Rattle.codec.proofs.gaps.fill_numbers.Given as goal
 
 abbrev pub invariant-loop-id : goal.invariant-loop-id

@@ -3,11 +3,10 @@ use mathlib.Core.Path.{◌≡◌, refl, sym, ap, ◌∙◌}
 use mathlib.Core.List.{List, [], ◌∷◌, ◌++◌, append_assoc}
 use native.Mathlib.Numerals.{add-one}
 use native.Mathlib.Omega.{arith}
-use borrow.Author.Rules.{rules}
 use lib.ListN.{length, drop, get_or, length-drop, drop_of_length-le}
 use lib.Seq.{drop-cons}
 use Rattle.base.specs.Parts.{over}
-use Rattle.codec.specs.Sets.{Within, absent}
+use Rattle.codec.specs.Sets.{Within}
 use Rattle.codec.specs.Inside.Gaps.{absent_from, numbers}
 use Rattle.codec.proofs.Laws.Coded.{head_within}
 use Rattle.codec.proofs.Laws.Filled.{over_none, over_more, long_more, same_more}

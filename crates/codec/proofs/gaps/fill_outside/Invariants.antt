@@ -1,18 +1,11 @@
 -- `gaps::fill_outside` meets its contract.
-use Prim.Native.Nat.{ℕ, ◌≤◌, ◌-◌, ◌+◌, ◌<◌}
-use mathlib.Core.Path.{◌≡◌, refl, sym, ap, ◌∙◌}
-use mathlib.Core.List.{List, [], ◌∷◌, ◌++◌, append_assoc}
-use native.Mathlib.Numerals.{add-one}
-use native.Mathlib.Omega.{arith}
-use borrow.Author.Rules.{rules}
-use lib.ListN.{length, drop, get_or, length-drop, drop_of_length-le}
-use lib.Seq.{drop-cons}
+use Prim.Native.Nat.{ℕ, ◌≤◌, ◌-◌, ◌+◌}
+use mathlib.Core.Path.{◌≡◌}
+use mathlib.Core.List.{List, ◌++◌}
+use lib.ListN.{length, drop}
 use Rattle.base.specs.Parts.{over}
 use Rattle.codec.specs.Sets.{Within, absent}
-use Rattle.codec.specs.Inside.Gaps.{absent_from, numbers}
-use Rattle.codec.proofs.Laws.Coded.{head_within}
-use Rattle.codec.proofs.Laws.Filled.{over_none, over_more, long_more, same_more}
-use Rattle.codec.proofs.Laws.Gaps.{within_room, length_numbers, absent_run, absent_end, absent_all}
+use Rattle.codec.specs.Inside.Gaps.{absent_from}
 use Rattle.codec.proofs.gaps.fill_outside.Given as goal
 
 -- the ids left out below `from` are written, and the others are above

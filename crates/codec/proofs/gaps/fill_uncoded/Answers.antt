@@ -8,10 +8,10 @@ use Rattle.base.specs.Parts.{over}
 use Rattle.codec.specs.Bits.{bits_of}
 use Rattle.codec.specs.Codes.{read_delta}
 use Rattle.codec.specs.Inside.Places.{ReadCodeAt}
-use Rattle.codec.specs.Sets.{absent, ReadIds, read_gaps}
+use Rattle.codec.specs.Sets.{absent, ReadIds}
 use Rattle.codec.specs.Inside.Gaps.{absent_from, numbers, ids_in}
 use Rattle.codec.proofs.Laws.Filled.{over_none, over_more, long_more, same_more}
-use Rattle.codec.proofs.Laws.Gaps.{Left, Turn, left_all, left_turn, left_there, left_none, turn_room, length_numbers, absent_run, absent_end, absent_all}
+use Rattle.codec.proofs.Laws.Gaps.{Turn, left_all, left_turn, left_there, left_none, turn_room, length_numbers, absent_run, absent_end, absent_all}
 use Rattle.codec.proofs.gaps.fill_uncoded.Goals as goal
 
 pub loop-i-init : goal.loop-i-init

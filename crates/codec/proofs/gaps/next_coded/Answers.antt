@@ -7,7 +7,6 @@ use lib.ListN.{get_or}
 use Rattle.codec.specs.Inside.Gaps.{Gave}
 use Rattle.codec.specs.declared.gaps.NextId.TheVariants.{Id, End}
 use Rattle.codec.proofs.Laws.Coded.{head_within, gave_absent, gave_no_absent, gave_id, gave_no_id}
-use borrow.Author.Rules.{rules}
 use Rattle.codec.proofs.gaps.next_coded.Goals as goal
 
 pub returns-then-n-id : goal.returns-then-n-id

@@ -1,7 +1,6 @@
 -- `gaps::put_id` meets its contract.
 use mathlib.Core.Path.{sym}
 use lib.Seq.{set_out}
-use borrow.Author.Rules.{rules}
 use Rattle.codec.proofs.gaps.put_id.Goals as goal
 
 pub returns-else-i-room : goal.returns-else-i-room

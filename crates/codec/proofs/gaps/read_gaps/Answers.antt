@@ -1,10 +1,9 @@
-use Prim.Native.Nat.{ℕ, ◌≤◌, ◌-◌, ◌<◌, ◌*◌, ◌+◌}
+use Prim.Native.Nat.{ℕ, ◌-◌, ◌<◌, ◌+◌}
 use mathlib.Core.Path.{◌≡◌, refl, ap, ◌∙◌, subst}
 use mathlib.Core.List.{List, [], ◌∷◌, ◌++◌}
 use native.Mathlib.Omega.{arith}
 use borrow.Author.Rules.{rules}
-use lib.ListN.{length, take, drop, set, length-set, length-append}
-use Rattle.base.specs.Parts.{over}
+use lib.ListN.{length, drop, set, length-set, length-append}
 use Rattle.codec.specs.Bits.{bits_of}
 use Rattle.codec.specs.Codes.{read_delta}
 use Rattle.codec.specs.Inside.Places.{ReadCodeAt}

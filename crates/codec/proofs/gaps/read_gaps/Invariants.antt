@@ -1,19 +1,12 @@
 -- `codec::read_gaps` meets its contract.
-use Prim.Native.Nat.{ℕ, ◌≤◌, ◌-◌, ◌<◌, ◌*◌, ◌+◌}
-use mathlib.Core.Path.{◌≡◌, refl, ap, ◌∙◌, subst}
-use mathlib.Core.List.{List, [], ◌∷◌, ◌++◌}
-use native.Mathlib.Omega.{arith}
-use borrow.Author.Rules.{rules}
-use lib.ListN.{length, take, drop, set, length-set, length-append}
+use Prim.Native.Nat.{ℕ, ◌≤◌, ◌-◌, ◌*◌}
+use mathlib.Core.Path.{◌≡◌}
+use mathlib.Core.List.{List}
+use lib.ListN.{length, take, drop}
 use Rattle.base.specs.Parts.{over}
 use Rattle.codec.specs.Bits.{bits_of}
-use Rattle.codec.specs.Codes.{read_delta}
-use Rattle.codec.specs.Inside.Places.{ReadCodeAt}
 use Rattle.codec.specs.Sets.{read_gaps}
 use Rattle.codec.specs.Inside.Gaps.{with_ids}
-use Rattle.codec.specs.declared.codes.ReadCode.TheVariants.{Value}
-use Rattle.codec.proofs.Laws.Filled.{put_none, put_set_lem}
-use Rattle.codec.proofs.Laws.Gaps.{after_nil, ahead, stuck, arrived, gaps_high, gaps_refused, put_refused, put_given}
 use Rattle.codec.proofs.gaps.read_gaps.Given as goal
 
 -- the ids read are put, as many as fit, and the others are yet to be read

@@ -1,10 +1,10 @@
-use Prim.Native.Nat.{ℕ, ◌+◌, ◌-◌, ◌*◌, ◌≤◌}
+use Prim.Native.Nat.{ℕ, ◌-◌}
 use mathlib.Core.Path.{◌≡◌, refl, sym, ap, ◌∙◌, subst}
 use mathlib.Core.Bool.{Bool}
 use mathlib.Core.List.{List, [], ◌++◌, append_assoc}
 use native.Mathlib.Omega.{arith}
 use borrow.Author.Rules.{rules}
-use lib.ListN.{length, drop}
+use lib.ListN.{drop}
 use Rattle.codec.specs.Bits.{bits_of}
 use Rattle.codec.specs.Codes.{delta, got, read_delta}
 use Rattle.codec.specs.Inside.Places.{ReadCodeAt}
@@ -13,7 +13,7 @@ use Rattle.codec.specs.Inside.Gaps.{coded_ids, Gave}
 use Rattle.codec.specs.declared.codes.ReadCode.TheVariants.{Value}
 use Rattle.codec.specs.declared.gaps.NextId.TheVariants.{Id}
 use Rattle.codec.proofs.Laws.Codes.{delta_only}
-use Rattle.codec.proofs.Laws.Coded.{Coding, coding_start, coding_next, coding_end, coding_read}
+use Rattle.codec.proofs.Laws.Coded.{coding_start, coding_next, coding_end, coding_read}
 use Rattle.codec.proofs.gaps.same_gaps.Goals as goal
 
 got-value : {v w : ℕ} {r s : List Bool} → got v r ≡ got w s → v ≡ w

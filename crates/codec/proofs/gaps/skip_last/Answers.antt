@@ -1,7 +1,5 @@
-use Prim.Native.Nat.{◌+◌, ◌-◌}
+use Prim.Native.Nat.{◌+◌}
 use native.Mathlib.Omega.{arith}
-use lib.ListN.{length}
-use Rattle.codec.specs.Inside.Gaps.{Skipped}
 use Rattle.codec.proofs.Laws.Coded.{skipped_one, skipped_all}
 use Rattle.codec.proofs.gaps.skip_last.Goals as goal
 

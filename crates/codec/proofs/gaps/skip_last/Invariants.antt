@@ -1,9 +1,7 @@
 -- `gaps::skip_last` meets its contract. The loop's invariant: `k` ids go up by one.
-use Prim.Native.Nat.{◌+◌, ◌-◌}
-use native.Mathlib.Omega.{arith}
+use Prim.Native.Nat.{◌-◌}
 use lib.ListN.{length}
 use Rattle.codec.specs.Inside.Gaps.{Skipped}
-use Rattle.codec.proofs.Laws.Coded.{skipped_one, skipped_all}
 use Rattle.codec.proofs.gaps.skip_last.Given as goal
 
 abbrev pub invariant-loop-k : goal.invariant-loop-k

@@ -1,7 +1,6 @@
-use Prim.Native.Nat.{◌+◌, ◌-◌, ◌≤◌}
+use Prim.Native.Nat.{◌+◌, ◌≤◌}
 use native.Mathlib.Omega.{arith}
-use lib.ListN.{length, get_or}
-use Rattle.codec.specs.Inside.Gaps.{Skipped}
+use lib.ListN.{get_or}
 use Rattle.codec.proofs.Laws.Coded.{skipped_none, skipped_eight, skipped_high, counted_all}
 use Rattle.codec.proofs.gaps.skip_present.Goals as goal
 

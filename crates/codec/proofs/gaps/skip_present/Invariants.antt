@@ -1,9 +1,7 @@
 -- `gaps::skip_present` meets its contract. The loop's invariant: `k` ids go up by one.
-use Prim.Native.Nat.{◌+◌, ◌-◌, ◌≤◌}
-use native.Mathlib.Omega.{arith}
-use lib.ListN.{length, get_or}
+use Prim.Native.Nat.{◌-◌}
+use lib.ListN.{length}
 use Rattle.codec.specs.Inside.Gaps.{Skipped}
-use Rattle.codec.proofs.Laws.Coded.{skipped_none, skipped_eight, skipped_high, counted_all}
 use Rattle.codec.proofs.gaps.skip_present.Given as goal
 
 abbrev pub invariant-loop-k : goal.invariant-loop-k

@@ -1,12 +1,12 @@
-use Prim.Native.Nat.{ℕ, ◌+◌, ◌-◌, ◌*◌, ◌≤◌}
-use mathlib.Core.Path.{◌≡◌, refl, sym, ap, ◌∙◌}
-use mathlib.Core.Bool.{Bool, false}
-use mathlib.Core.List.{List, [], ◌++◌}
+use Prim.Native.Nat.{ℕ, ◌+◌, ◌-◌}
+use mathlib.Core.Path.{refl, sym, ap, ◌∙◌}
+use mathlib.Core.Bool.{false}
+use mathlib.Core.List.{[], ◌++◌}
 use native.Mathlib.Omega.{arith}
 use lib.ListN.{length, get_or, length-append}
 use Rattle.codec.specs.Codes.{delta}
 use Rattle.codec.specs.Inside.Gaps.{Gave}
-use Rattle.codec.proofs.Laws.Coded.{Coding, coding_start, coding_next, coding_end, gave_id, gave_no_id}
+use Rattle.codec.proofs.Laws.Coded.{coding_start, coding_next, coding_end, gave_id, gave_no_id}
 use Rattle.codec.specs.declared.gaps.NextId.TheVariants.{Id}
 use Rattle.codec.proofs.gaps.sparse_len.Goals as goal
 

@@ -1,17 +1,9 @@
 -- `gaps::write_dense` meets its contract. The loop's invariant: the bits of the absent ids passed are written.
-use Prim.Native.Nat.{ℕ, ◌+◌, ◌-◌}
-use mathlib.Core.Path.{sym, subst}
+use Prim.Native.Nat.{◌-◌}
 use mathlib.Core.Bool.{Bool, true}
-use mathlib.Core.List.{List, [], ◌++◌}
-use native.Mathlib.Omega.{arith}
-use lib.ListN.{length}
-use Rattle.codec.specs.Codes.{delta}
-use Rattle.codec.specs.Sets.{gap_bits}
-use Rattle.codec.specs.Inside.Gaps.{coded_ids, Gave}
+use mathlib.Core.List.{List}
 use Rattle.codec.specs.Inside.Writers.{Wrote}
-use Rattle.codec.proofs.Laws.Coded.{Coding, coding_start, coding_next, coding_end, coding_room, gave_absent, gave_no_absent}
-use Rattle.codec.proofs.Laws.Writers.{wrote_none, wrote_then, ready_after}
-use Rattle.codec.specs.declared.gaps.NextId.TheVariants.{Id}
+use Rattle.codec.proofs.Laws.Coded.{Coding}
 use Rattle.codec.proofs.gaps.write_dense.Given as goal
 
 abbrev pub invariant-loop-written : goal.invariant-loop-written

@@ -1,14 +1,14 @@
 use Prim.Native.Nat.{ℕ, ◌+◌, ◌-◌}
 use mathlib.Core.Path.{sym, subst}
-use mathlib.Core.Bool.{Bool, false}
-use mathlib.Core.List.{List, [], ◌++◌}
+use mathlib.Core.Bool.{false}
+use mathlib.Core.List.{[], ◌++◌}
 use native.Mathlib.Omega.{arith}
 use lib.ListN.{length, get_or}
 use Rattle.codec.specs.Codes.{delta}
 use Rattle.codec.specs.Sets.{gap_bits}
 use Rattle.codec.specs.Inside.Gaps.{coded_ids, Gave}
 use Rattle.codec.specs.Inside.Writers.{Wrote}
-use Rattle.codec.proofs.Laws.Coded.{Coding, coding_start, coding_next, coding_end, coding_room, gave_id, gave_no_id}
+use Rattle.codec.proofs.Laws.Coded.{coding_start, coding_next, coding_end, coding_room, gave_id, gave_no_id}
 use Rattle.codec.proofs.Laws.Writers.{wrote_none, wrote_then, ready_after}
 use Rattle.codec.specs.declared.gaps.NextId.TheVariants.{Id}
 use Rattle.codec.proofs.gaps.write_sparse.Goals as goal

@@ -1,5 +1,4 @@
 -- `index::answer` meets its contract.
-use borrow.Author.Rules.{rules}
 use Rattle.codec.proofs.index.answer.Goals as goal
 
 pub returns-in-Refused : goal.returns-in-Refused

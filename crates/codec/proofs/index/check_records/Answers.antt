@@ -1,9 +1,8 @@
 use mathlib.Core.Path.{ap, ◌∙◌, subst}
 use native.Mathlib.Omega.{arith}
-use borrow.Author.Rules.{rules}
 use Rattle.base.specs.Answers.{of_made}
 use Rattle.codec.specs.Inside.Indexes.{SteppedAt, made_of}
-use Rattle.codec.proofs.Laws.Indexing.{Checking, checking_none, checking_more, checking_stop, checking_end}
+use Rattle.codec.proofs.Laws.Indexing.{checking_none, checking_more, checking_stop, checking_end}
 use Rattle.codec.proofs.index.check_records.Goals as goal
 
 pub loop-left-init : goal.loop-left-init

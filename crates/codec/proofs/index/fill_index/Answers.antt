@@ -1,10 +1,8 @@
-use Prim.Native.Nat.{◌-◌}
 use mathlib.Core.Path.{◌∙◌, subst}
 use native.Mathlib.Omega.{arith}
 use lib.ListN.{length-set}
-use borrow.Author.Rules.{rules}
 use Rattle.codec.specs.Inside.Indexes.{SteppedAt}
-use Rattle.codec.proofs.Laws.Indexing.{Filling, filling_none, filling_more, filling_stop, filling_end}
+use Rattle.codec.proofs.Laws.Indexing.{filling_none, filling_more, filling_stop, filling_end}
 use Rattle.codec.proofs.index.fill_index.Goals as goal
 
 pub loop-i-init : goal.loop-i-init

@@ -1,11 +1,6 @@
 -- `index::fill_index` meets its contract. The loop keeps the entries of the records passed in the front of `out`; that every record is there is required, so no step is refused.
 use Prim.Native.Nat.{◌-◌}
-use mathlib.Core.Path.{◌∙◌, subst}
-use native.Mathlib.Omega.{arith}
-use lib.ListN.{length-set}
-use borrow.Author.Rules.{rules}
-use Rattle.codec.specs.Inside.Indexes.{SteppedAt}
-use Rattle.codec.proofs.Laws.Indexing.{Filling, filling_none, filling_more, filling_stop, filling_end}
+use Rattle.codec.proofs.Laws.Indexing.{Filling}
 use Rattle.codec.proofs.index.fill_index.Given as goal
 
 abbrev pub invariant-loop-i : goal.invariant-loop-i

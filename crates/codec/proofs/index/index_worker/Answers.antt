@@ -1,6 +1,5 @@
 -- `index::index_worker` meets its contract.
 use mathlib.Core.Path.{sym, ap, ◌∙◌}
-use borrow.Author.Rules.{rules}
 use Rattle.base.specs.Answers.{of_made}
 use Rattle.codec.proofs.Laws.Indexing.{make_short, make_stopped, make_done}
 use Rattle.codec.proofs.index.index_worker.Goals as goal

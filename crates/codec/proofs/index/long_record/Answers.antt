@@ -1,7 +1,6 @@
 -- `index::long_record` meets its contract: the prefix's answer says where the payload starts and how long it is.
 use mathlib.Core.Path.{sym, ap, ◌∙◌, subst}
 use native.Mathlib.Omega.{arith}
-use borrow.Author.Rules.{rules}
 use Rattle.codec.specs.Inside.Indexes.{SteppedAt, up_step}
 use Rattle.codec.specs.declared.prefix.Prefix.TheVariants.{Whole}
 use Rattle.codec.proofs.Laws.Indexing.{Says, part_says, step_up, step_start_lem, step_cut, step_next}

@@ -2,7 +2,6 @@
 use Prim.Native.Nat.{ℕ}
 use mathlib.Core.Path.{sym, subst}
 use native.Mathlib.Omega.{arith}
-use borrow.Author.Rules.{rules}
 use Rattle.base.specs.declared.Refusal.TheVariants as refusal
 use Rattle.codec.specs.declared.prefix.Prefix.TheVariants.{Whole}
 use Rattle.codec.proofs.Laws.Indexing.{Says, says_none, says_byte, step_up, step_cut, step_next}

@@ -1,5 +1,4 @@
 -- `index::passed_up` meets its contract.
-use borrow.Author.Rules.{rules}
 use Rattle.codec.proofs.index.passed_up.Goals as goal
 
 pub returns-in-Whole : goal.returns-in-Whole

@@ -1,10 +1,9 @@
 use mathlib.Core.List.{[], ◌∷◌}
-use Prim.Native.Nat.{◌+◌, ◌-◌, ◌/◌, ◌%◌, ◌≤◌}
+use Prim.Native.Nat.{◌+◌, ◌/◌, ◌%◌, ◌≤◌}
 use native.Mathlib.Omega.{arith}
-use lib.ListN.{length, set, length-set}
+use lib.ListN.{length, length-set}
 use Rattle.codec.proofs.Laws.Varints.{prefix_1, prefix_2, prefix_3, prefix_4, prefix_5, groups_put, long_1, long_2, long_3, long_4, long_5}
 use Rattle.base.specs.Parts.{over}
-use borrow.Author.Rules.{rules}
 use Rattle.codec.proofs.prefix.fill_varint.Goals as goal
 
 -- src/lib.rt:88:9

@@ -8,7 +8,6 @@ use lib.Dec.{ltb, eqb}
 use lib.Pow.{pow_mono}
 use borrow.Author.Tests.{lt-ltb, le-ltb, eq-eqb, ne_eqb}
 use Rattle.codec.proofs.Laws.Bits.{joined_lt, shift_fits}
-use borrow.Author.Rules.{rules}
 use Rattle.codec.proofs.prefix.last_group.Goals as goal
 use Rattle.codec.proofs.prefix.last_group.Goals.{then-b-eq0+else-i-gt0, else-b-eq0}
 

@@ -2,7 +2,6 @@
 use Prim.Native.Nat.{◌<◌, ◌≤◌}
 use native.Mathlib.Omega.{arith}
 use lib.ListN.{length}
-use borrow.Author.Rules.{rules}
 use Rattle.base.proofs.Tests.{tests}
 use Rattle.codec.specs.Prefix.{prefix_of, write_prefix}
 use Rattle.codec.proofs.prefix.write_varint.Goals as goal

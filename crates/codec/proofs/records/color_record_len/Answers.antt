@@ -11,7 +11,6 @@ use Rattle.codec.specs.Records.{bad_colors, record_length}
 use Rattle.codec.specs.Sets.{within}
 use Rattle.codec.proofs.Laws.Records.{within_ids}
 use Rattle.codec.proofs.Laws.Encoded.{good_colors, record_length_lem}
-use borrow.Author.Rules.{rules}
 use mathlib.Core.Bool.{Bool}
 use mathlib.Core.Bool.{not}
 use Rattle.codec.proofs.records.color_record_len.Goals as goal

@@ -14,7 +14,6 @@ use Rattle.codec.proofs.Laws.Prefix.{prefix_behind}
 use Rattle.codec.proofs.Laws.Records.{within_ids}
 use Rattle.codec.proofs.Laws.Encoded.{good_colors}
 use Rattle.codec.proofs.Laws.Compared.{gives_none, gives_refused, gives_cut, gives_payload}
-use borrow.Author.Rules.{rules}
 use mathlib.Core.Bool.{Bool}
 use mathlib.Core.Bool.{not}
 use Rattle.codec.proofs.records.is_color_record.Goals as goal

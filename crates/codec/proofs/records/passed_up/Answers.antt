@@ -1,5 +1,4 @@
 -- `codec::passed_up` meets its contract.
-use borrow.Author.Rules.{rules}
 use Rattle.codec.proofs.records.passed_up.Goals as goal
 
 -- src/records.rt:69:1

@@ -2,7 +2,6 @@
 use mathlib.Core.Path.{sym, ap, ◌∙◌}
 use Rattle.codec.specs.Bits.{bytes_for}
 use Rattle.codec.proofs.Laws.Sizes.{length_payload}
-use borrow.Author.Rules.{rules}
 use Rattle.codec.proofs.records.payload_len.Goals as goal
 
 pub returns : goal.returns

@@ -9,7 +9,6 @@ use Rattle.codec.specs.Inside.Prefixes.{up_given}
 use Rattle.codec.proofs.Laws.Prefix.{prefix_behind}
 use Rattle.codec.proofs.Laws.Reading.{read_refused, read_up, read_whole}
 use Rattle.codec.proofs.Laws.Encoded.{good_colors}
-use borrow.Author.Rules.{rules}
 use Rattle.codec.proofs.records.read_color_record.Goals as goal
 
 pub returns-then-bad_colors : goal.returns-then-bad_colors

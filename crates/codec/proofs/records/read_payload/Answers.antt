@@ -1,6 +1,5 @@
 -- `records::read_payload` meets its contract.
 use Rattle.codec.proofs.Laws.Reading.{payload_cut}
-use borrow.Author.Rules.{rules}
 use Rattle.codec.proofs.records.read_payload.Goals as goal
 
 pub returns-then-input-len : goal.returns-then-input-len

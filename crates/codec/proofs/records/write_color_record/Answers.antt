@@ -14,7 +14,6 @@ use Rattle.codec.specs.Records.{bad_colors, record_of, write_record}
 use Rattle.codec.specs.Sets.{within}
 use Rattle.codec.proofs.Laws.Records.{within_ids}
 use Rattle.codec.proofs.Laws.Encoded.{good_colors, record_length_lem, record_room, record_put, bytes_tail}
-use borrow.Author.Rules.{rules}
 use mathlib.Core.Bool.{Bool}
 use mathlib.Core.Bool.{not}
 use Rattle.codec.proofs.records.write_color_record.Goals as goal

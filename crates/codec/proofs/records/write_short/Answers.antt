@@ -2,7 +2,6 @@
 use Prim.Native.Nat.{◌<◌}
 use native.Mathlib.Omega.{arith}
 use lib.ListN.{length-drop}
-use borrow.Author.Rules.{rules}
 use Rattle.codec.proofs.Laws.Sizes.{payload_short}
 use Rattle.base.proofs.Parts.{tail_is}
 use Rattle.codec.proofs.Laws.Encoded.{bytes_tail, short_room, short_length, short_put}

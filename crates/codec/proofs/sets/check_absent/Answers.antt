@@ -2,7 +2,6 @@
 use native.Mathlib.Omega.{arith}
 use Rattle.codec.proofs.Laws.Decoding.{dense_few, dense_at}
 use Rattle.codec.proofs.Laws.Gaps.{kept_none, put_kept}
-use borrow.Author.Rules.{rules}
 use Rattle.codec.proofs.sets.check_absent.Goals as goal
 
 -- src/sets.rt:144:9

@@ -1,5 +1,5 @@
 -- `sets::check_map` meets its contract.
-use Prim.Native.Nat.{ℕ, ◌-◌}
+use Prim.Native.Nat.{ℕ}
 use mathlib.Core.Path.{sym, ap, ◌∙◌}
 use mathlib.Core.Bool.{Bool}
 use mathlib.Core.List.{List}
@@ -10,7 +10,6 @@ use Rattle.codec.specs.Bits.{bits_of}
 use Rattle.codec.specs.Sets.{ids_of, given}
 use Rattle.codec.proofs.Laws.Low.{length_bits}
 use Rattle.codec.proofs.Laws.Decoding.{map_short, map_other, map_given}
-use borrow.Author.Rules.{rules}
 use Rattle.codec.proofs.sets.check_map.Goals as goal
 
 pub returns-then-payload-at : goal.returns-then-payload-at

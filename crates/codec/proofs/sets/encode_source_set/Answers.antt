@@ -8,7 +8,6 @@ use Rattle.codec.specs.Inside.Writers.{Wrote}
 use Rattle.codec.specs.declared.bits.BitWriter.{BitWriter}
 use Rattle.codec.proofs.Laws.Encoded.{few_ids, set_length, ready_front, encoded}
 use Rattle.codec.proofs.Laws.Writers.{wrote_none, wrote_then, ready_after}
-use borrow.Author.Rules.{rules}
 use Rattle.codec.proofs.sets.encode_source_set.Goals as goal
 
 -- a writer that holds nothing yet
@@ -28,8 +27,11 @@ write_delta-w-requires c =
 
 pub write_body-w-requires : goal.write_body-w-requires
 write_body-w-requires c =
-    let a = c.args in record { within = (c.requires.within.0, c.requires.within.1); ready = ready_after a.out.now c.write_delta-w.new.out fresh c.write_delta-w.result (delta (length a.ids.now)) c.write_delta-w.ensures _ _ (ready_front a.n a.ids.now a.out.now c.requires.ids_in_bounds)
-          (omega (arith, set_length a.n a.ids.now _ refl)) }
+    let a = c.args in record {
+      within = (c.requires.within.0, c.requires.within.1);
+      ready = ready_after a.out.now c.write_delta-w.new.out fresh c.write_delta-w.result (delta (length a.ids.now)) c.write_delta-w.ensures _ _ (ready_front a.n a.ids.now a.out.now c.requires.ids_in_bounds)
+          (omega (arith, set_length a.n a.ids.now _ refl));
+    }
 
 pub finish-requires : goal.finish-requires
 unfolding set_bits

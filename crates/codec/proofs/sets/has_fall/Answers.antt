@@ -1,9 +1,8 @@
-use Prim.Native.Nat.{◌+◌, ◌-◌, ◌≤◌, ◌<◌}
+use Prim.Native.Nat.{◌+◌, ◌-◌}
 use mathlib.Core.Path.{◌≡◌, refl, sym, ap, ◌∙◌}
 use mathlib.Core.Bool.{Bool, true, false, ◌||◌}
 use native.Mathlib.Omega.{arith}
-use lib.ListN.{length, drop, get_or}
-use Rattle.codec.specs.Inside.Payloads.{has_fall}
+use lib.ListN.{get_or}
 use Rattle.codec.proofs.Laws.Ascending.{falls_next, falls_end}
 use Rattle.codec.proofs.sets.has_fall.Goals as goal
 

@@ -1,11 +1,9 @@
 -- `codec::has_fall` meets its contract. The loop's invariant: what was found, or a fall further on.
-use Prim.Native.Nat.{◌+◌, ◌-◌, ◌≤◌, ◌<◌}
-use mathlib.Core.Path.{◌≡◌, refl, sym, ap, ◌∙◌}
-use mathlib.Core.Bool.{Bool, true, false, ◌||◌}
-use native.Mathlib.Omega.{arith}
+use Prim.Native.Nat.{◌-◌, ◌≤◌, ◌<◌}
+use mathlib.Core.Path.{◌≡◌}
+use mathlib.Core.Bool.{◌||◌}
 use lib.ListN.{length, drop, get_or}
 use Rattle.codec.specs.Inside.Payloads.{has_fall}
-use Rattle.codec.proofs.Laws.Ascending.{falls_next, falls_end}
 use Rattle.codec.proofs.sets.has_fall.Given as goal
 
 abbrev pub invariant-loop-i : goal.invariant-loop-i

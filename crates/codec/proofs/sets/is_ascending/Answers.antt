@@ -6,7 +6,6 @@ use native.Mathlib.Omega.{arith}
 use lib.ListN.{length, get_or}
 use lib.Dec.{ltb}
 use Rattle.codec.proofs.Laws.Ascending.{within_last, within_none}
-use borrow.Author.Rules.{rules}
 use Rattle.codec.proofs.sets.is_ascending.Goals as goal
 
 -- src/sets.rt:37:9

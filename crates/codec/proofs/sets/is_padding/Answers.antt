@@ -11,7 +11,6 @@ use Rattle.base.proofs.Bools.{and_left_no}
 use Rattle.codec.specs.Bits.{bits_of, value_of}
 use Rattle.codec.proofs.Laws.Low.{length_bits}
 use Rattle.codec.proofs.Laws.Decoding.{padding_test}
-use borrow.Author.Rules.{rules}
 use Rattle.codec.proofs.sets.is_padding.Goals as goal
 
 -- src/sets.rt:156:9

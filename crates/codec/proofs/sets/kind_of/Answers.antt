@@ -1,10 +1,7 @@
 -- `codec::kind_of` meets its contract.
-use Prim.Native.Nat.{◌/◌}
 use mathlib.Core.Path.{sym}
 use native.Mathlib.Omega.{arith}
-use borrow.Author.Rules.{rules}
 use borrow.Author.Tests.{lt-ltb, le-ltb}
-use Rattle.codec.specs.Sets.{regime}
 use Rattle.codec.proofs.Laws.Sets.{regime_none, regime_some}
 use Rattle.codec.proofs.sets.kind_of.Goals as goal
 

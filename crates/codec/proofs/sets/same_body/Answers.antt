@@ -1,11 +1,10 @@
 -- `codec::sets::same_body` meets its contract.
-use mathlib.Core.Path.{refl, ap, subst}
+use mathlib.Core.Path.{refl, subst}
 use mathlib.Core.Bool.{Bool}
 use mathlib.Core.List.{List}
 use Rattle.codec.specs.Inside.Gaps.{BitsAt}
 use Rattle.codec.specs.declared.gaps.Checked.TheVariants.{Good}
 use Rattle.codec.proofs.Laws.Encoded.{body_empty, body_sparse, body_bitmap, body_dense}
-use borrow.Author.Rules.{rules}
 use Rattle.codec.proofs.sets.same_body.Goals as goal
 
 pub returns-in-Empty : goal.returns-in-Empty

@@ -14,7 +14,6 @@ use Rattle.codec.specs.declared.codes.ReadCode.TheVariants.{Value}
 use Rattle.codec.specs.declared.gaps.Checked.TheVariants.{Good}
 use Rattle.codec.proofs.Laws.Encoded.{few_ids}
 use Rattle.codec.proofs.Laws.Compared.{gives_other, set_begins, gives_same}
-use borrow.Author.Rules.{rules}
 use Rattle.codec.proofs.sets.same_set.Goals as goal
 
 -- two answers of one reading

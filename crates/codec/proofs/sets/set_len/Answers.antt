@@ -1,11 +1,7 @@
 -- `codec::sets::set_len` meets its contract.
-use mathlib.Core.Path.{ap}
 use native.Mathlib.Omega.{arith}
-use lib.ListN.{length}
-use Rattle.codec.specs.Codes.{delta}
 use Rattle.codec.proofs.Laws.Sets.{length_map_bits}
 use Rattle.codec.proofs.Laws.Encoded.{few_ids, body_empty, body_sparse, body_bitmap, body_dense, set_length, set_short}
-use borrow.Author.Rules.{rules}
 use Rattle.codec.proofs.sets.set_len.Goals as goal
 
 pub overflow_cast-ids : goal.overflow_cast-ids

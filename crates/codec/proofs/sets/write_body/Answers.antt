@@ -5,7 +5,6 @@ use Rattle.codec.specs.Inside.Writers.{Ready, Wrote}
 use Rattle.codec.proofs.Laws.Sets.{length_map_bits}
 use Rattle.codec.proofs.Laws.Encoded.{body_empty, body_sparse, body_bitmap, body_dense}
 use Rattle.codec.proofs.Laws.Writers.{wrote_none}
-use borrow.Author.Rules.{rules}
 use Rattle.codec.proofs.sets.write_body.Goals as goal
 
 pub write_sparse-requires : goal.write_sparse-requires

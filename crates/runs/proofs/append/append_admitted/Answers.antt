@@ -3,10 +3,8 @@ use Prim.Native.Nat.{ℕ, ◌≤◌}
 use mathlib.Core.Path.{refl, sym, subst}
 use native.Mathlib.Omega.{arith}
 use lib.ListN.{take}
-use borrow.Author.Rules.{rules}
 use Rattle.runs.specs.Colours.{last_coord}
 use Rattle.runs.specs.Reverse.{oriented}
-use Rattle.runs.proofs.Laws.Orders.{taken}
 use Rattle.runs.proofs.Laws.Append.{skip_le, result_3, result_done}
 use Rattle.runs.proofs.append.append_admitted.Goals as goal
 

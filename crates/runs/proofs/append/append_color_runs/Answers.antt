@@ -3,12 +3,10 @@ use Prim.Native.Nat.{◌≤◌}
 use mathlib.Core.Path.{◌≡◌, sym, ◌∙◌}
 use mathlib.Core.Bool.{true, false}
 use lib.ListN.{length, take}
-use borrow.Author.Rules.{rules}
 use borrow.Author.Tests.{not-true, not-false}
 use Rattle.base.proofs.Bools.{via}
 use Rattle.runs.specs.Orders.{sharp}
 use Rattle.runs.specs.Append.{bad_counts, joinable}
-use Rattle.runs.proofs.Laws.Orders.{taken}
 use Rattle.runs.proofs.Laws.Append.{append_3, append_7, append_6, append_66, append_goes, admitted}
 use mathlib.Core.Path.{ap}
 use mathlib.Core.Bool.{Bool}

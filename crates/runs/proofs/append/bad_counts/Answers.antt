@@ -1,8 +1,6 @@
 -- `runs::append::bad_counts` meets its contract.
-use borrow.Author.Rules.{rules}
 use borrow.Author.Tests.{eq-eqb, ne_eqb}
 use Rattle.runs.specs.Append.{bad_counts}
-use Rattle.runs.proofs.Laws.Orders.{taken}
 use Rattle.runs.proofs.append.bad_counts.Goals as goal
 
 pub returns-then-a-eq0 : goal.returns-then-a-eq0

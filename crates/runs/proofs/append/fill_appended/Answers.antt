@@ -4,7 +4,6 @@ use mathlib.Core.Path.{◌≡◌, sym, ap, ◌∙◌}
 use native.Mathlib.Omega.{arith}
 use lib.ListN.{length, drop}
 use lib.Seq.{paste}
-use borrow.Author.Rules.{rules}
 use Rattle.runs.specs.Reverse.{oriented}
 use Rattle.runs.specs.Append.{shifted}
 use Rattle.runs.proofs.Laws.Reverse.{oriented_long}

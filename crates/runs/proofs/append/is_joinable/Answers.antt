@@ -3,10 +3,7 @@ use Prim.Native.Nat.{ℕ}
 use mathlib.Core.Path.{sym, ap, ◌∙◌}
 use lib.Seq.{length-take-le}
 use lib.Dec.{ltb}
-use borrow.Author.Rules.{rules}
 use borrow.Author.Tests.{not-true, not-false}
-use Rattle.runs.specs.Words.{offset}
-use Rattle.runs.proofs.Laws.Orders.{taken}
 use Rattle.runs.proofs.Laws.Append.{open_none, open_bad, open_last}
 use mathlib.Core.Bool.{Bool}
 use mathlib.Core.Bool.{not}

@@ -1,11 +1,9 @@
 -- `runs::append::skip_of` meets its contract.
 use mathlib.Core.Path.{◌≡◌, sym, ap, ◌∙◌}
 use lib.ListN.{take}
-use borrow.Author.Rules.{rules}
 use Rattle.runs.specs.Words.{coordinate}
 use Rattle.runs.specs.Colours.{last_coord}
 use Rattle.runs.specs.Reverse.{oriented}
-use Rattle.runs.proofs.Laws.Orders.{taken}
 use Rattle.runs.proofs.Laws.Append.{last_take, skip_yes, skip_no}
 use Rattle.runs.proofs.append.skip_of.Goals as goal
 

@@ -1,13 +1,9 @@
 -- `runs::bytes::fill_bytes` meets its contract.
-use Prim.Native.Nat.{◌+◌, ◌-◌, ◌*◌, ◌≤◌}
-use mathlib.Core.Path.{◌≡◌, subst}
-use native.Mathlib.Omega.{arith}
-use lib.ListN.{length, get_or}
-use borrow.Author.Rules.{rules}
+use Prim.Native.Nat.{◌-◌, ◌*◌, ◌≤◌}
+use lib.ListN.{length}
 use Rattle.codec.specs.Flat.{flat}
 use Rattle.runs.specs.Bytes.{le_bytes}
-use Rattle.runs.proofs.Laws.Lists.{Filled, fill_none, fill_end}
-use Rattle.runs.proofs.Laws.Bytes.{length_le, length_flat, block, fill_block}
+use Rattle.runs.proofs.Laws.Lists.{Filled}
 use Rattle.runs.proofs.bytes.fill_bytes.Given as goal
 
 abbrev pub invariant-loop-i : goal.invariant-loop-i

@@ -1,10 +1,8 @@
-use Prim.Native.Nat.{◌+◌, ◌-◌, ◌*◌, ◌≤◌}
+use Prim.Native.Nat.{◌+◌, ◌*◌}
 use mathlib.Core.Path.{◌≡◌, refl, sym, ap, ◌∙◌, subst}
 use native.Mathlib.Omega.{arith}
-use lib.ListN.{length, drop}
-use borrow.Author.Rules.{rules}
+use lib.ListN.{length}
 use Rattle.codec.specs.Flat.{flat}
-use Rattle.runs.specs.Words.{pack}
 use Rattle.runs.specs.Reverse.{oriented}
 use Rattle.runs.specs.Inside.Cursor.{runs_from_step}
 use Rattle.runs.specs.Bytes.{le_bytes}

@@ -1,18 +1,12 @@
 -- `runs::bytes::fill_turned_bytes` meets its contract.
 use Prim.Native.Nat.{◌+◌, ◌-◌, ◌*◌, ◌≤◌}
-use mathlib.Core.Path.{◌≡◌, refl, sym, ap, ◌∙◌, subst}
-use native.Mathlib.Omega.{arith}
+use mathlib.Core.Path.{◌≡◌}
 use lib.ListN.{length, drop}
-use borrow.Author.Rules.{rules}
 use Rattle.codec.specs.Flat.{flat}
-use Rattle.runs.specs.Words.{pack}
 use Rattle.runs.specs.Reverse.{oriented}
 use Rattle.runs.specs.Inside.Cursor.{runs_from_step}
 use Rattle.runs.specs.Bytes.{le_bytes}
-use Rattle.runs.proofs.Laws.Lists.{Filled, fill_none, fill_end}
-use Rattle.runs.proofs.Laws.Reverse.{oriented_long, oriented_steady}
-use Rattle.runs.proofs.Laws.Cursor.{goes, run_is, rest_is, run_small}
-use Rattle.runs.proofs.Laws.Bytes.{length_le, length_flat, block, fill_block}
+use Rattle.runs.proofs.Laws.Lists.{Filled}
 use Rattle.runs.proofs.bytes.fill_turned_bytes.Given as goal
 
 abbrev pub invariant-loop-i : goal.invariant-loop-i

@@ -1,12 +1,11 @@
-use Prim.Native.Nat.{ℕ, ◌-◌, ◌*◌, ◌≤◌}
+use Prim.Native.Nat.{ℕ, ◌*◌}
 use mathlib.Core.Path.{◌≡◌, sym, ap, ◌∙◌}
 use mathlib.Core.List.{List}
 use native.Mathlib.Omega.{arith}
 use lib.ListN.{take, drop, get_or}
 use lib.Seq.{drop-drop}
-use borrow.Author.Rules.{rules}
 use Rattle.runs.specs.Bytes.{le_value, words}
-use Rattle.runs.proofs.Laws.Lists.{Filled, fill_none, fill_more, fill_end}
+use Rattle.runs.proofs.Laws.Lists.{fill_none, fill_more, fill_end}
 use Rattle.runs.proofs.Laws.Bytes.{length_words, word_is}
 use Rattle.runs.proofs.bytes.fill_words.Goals as goal
 

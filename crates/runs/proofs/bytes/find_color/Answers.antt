@@ -1,12 +1,10 @@
-use Prim.Native.Nat.{ℕ, ◌+◌, ◌-◌, ◌≤◌, ◌<◌}
-use mathlib.Core.Path.{◌≡◌, refl, sym, ap, ◌∙◌}
+use Prim.Native.Nat.{ℕ, ◌+◌, ◌≤◌, ◌<◌}
+use mathlib.Core.Path.{refl, sym, ap, ◌∙◌}
 use native.Mathlib.Omega.{arith}
 use lib.ListN.{drop, get_or}
-use borrow.Author.Rules.{rules}
 use Rattle.runs.specs.Words.{offset, coordinate}
-use Rattle.runs.specs.Colours.{colour_from, colour_at}
+use Rattle.runs.specs.Colours.{colour_from}
 use Rattle.runs.specs.Bytes.{words}
-use Rattle.runs.proofs.Laws.Orders.{taken}
 use Rattle.runs.proofs.Laws.Colours.{colour_stop, colour_step, colour_end}
 use Rattle.runs.proofs.Laws.Bytes.{length_words, word_there}
 use Rattle.runs.proofs.bytes.find_color.Goals as goal

@@ -1,5 +1,4 @@
 -- `runs::bytes::passed_up` meets its contract.
-use borrow.Author.Rules.{rules}
 use Rattle.runs.proofs.bytes.passed_up.Goals as goal
 
 pub returns-in-Whole : goal.returns-in-Whole

@@ -1,7 +1,6 @@
 -- `runs::bytes::put_word` meets its contract.
 use native.Mathlib.Omega.{arith}
 use lib.ListN.{length-set}
-use borrow.Author.Rules.{rules}
 use Rattle.runs.specs.Bytes.{le_bytes}
 use Rattle.runs.proofs.Laws.Bytes.{put_8}
 use Rattle.runs.proofs.bytes.put_word.Goals as goal

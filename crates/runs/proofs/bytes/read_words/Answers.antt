@@ -1,8 +1,6 @@
 -- `runs::bytes::read_words` meets its contract.
 use native.Mathlib.Omega.{arith}
 use lib.ListN.{length, drop, length-drop}
-use borrow.Author.Rules.{rules}
-use Rattle.runs.proofs.Laws.Orders.{taken}
 use Rattle.runs.proofs.Laws.Bytes.{given_4, given_3, given_done}
 use Rattle.runs.proofs.bytes.read_words.Goals as goal
 

@@ -2,7 +2,6 @@
 use Prim.Native.Nat.{ℕ}
 use mathlib.Core.Path.{sym, ap, ap₂, ◌∙◌}
 use mathlib.Core.List.{[], ◌∷◌}
-use borrow.Author.Rules.{rules}
 use Rattle.runs.specs.Bytes.{le_value}
 use Rattle.runs.proofs.Laws.Bytes.{take_8, value_8}
 use Rattle.runs.proofs.bytes.run_word.Goals as goal

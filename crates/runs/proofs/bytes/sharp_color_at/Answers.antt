@@ -1,6 +1,5 @@
 -- `runs::bytes::sharp_color_at` meets its contract.
 use mathlib.Core.Path.{sym, ◌∙◌}
-use borrow.Author.Rules.{rules}
 use borrow.Author.Tests.{le-leb, lt-leb}
 use Rattle.base.proofs.Tests.{when_yes, when_no}
 use Rattle.runs.specs.Bytes.{sharp_colour}

@@ -5,7 +5,6 @@ use Rattle.base.proofs.Bools.{via}
 use Rattle.codec.specs.Prefix.{of_prefix}
 use Rattle.runs.specs.Bytes.{of_colored, sharp_colour_in}
 use Rattle.runs.specs.Inside.Prefixes.{up_colored}
-use Rattle.runs.specs.declared.bytes.Colored.{Colored}
 use Rattle.runs.proofs.Laws.Bytes.{color_up, count_behind}
 use Rattle.runs.proofs.bytes.sharp_color_in.Goals as goal
 

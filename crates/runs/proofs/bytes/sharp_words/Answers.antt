@@ -1,12 +1,11 @@
-use Prim.Native.Nat.{ℕ, ◌+◌, ◌-◌, ◌≤◌}
-use mathlib.Core.Path.{◌≡◌, sym, ap, ◌∙◌}
+use Prim.Native.Nat.{ℕ, ◌+◌}
+use mathlib.Core.Path.{sym, ap, ◌∙◌}
 use native.Mathlib.Omega.{arith}
 use lib.ListN.{drop}
-use borrow.Author.Rules.{rules}
 use Rattle.runs.specs.Words.{offset}
-use Rattle.runs.specs.Orders.{climbs, sharp}
+use Rattle.runs.specs.Orders.{climbs}
 use Rattle.runs.specs.Bytes.{words}
-use Rattle.runs.proofs.Laws.Orders.{taken, sharp_none, sharp_bad, sharp_in, strict_more, strict_bad, strict_end}
+use Rattle.runs.proofs.Laws.Orders.{sharp_none, sharp_bad, sharp_in, strict_more, strict_bad, strict_end}
 use Rattle.runs.proofs.Laws.Bytes.{length_words, word_there, word_first}
 use Rattle.runs.proofs.bytes.sharp_words.Goals as goal
 

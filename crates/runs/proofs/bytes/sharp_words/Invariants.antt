@@ -1,14 +1,9 @@
 -- `runs::bytes::sharp_words` meets its contract.
-use Prim.Native.Nat.{ℕ, ◌+◌, ◌-◌, ◌≤◌}
-use mathlib.Core.Path.{◌≡◌, sym, ap, ◌∙◌}
-use native.Mathlib.Omega.{arith}
+use Prim.Native.Nat.{◌-◌, ◌≤◌}
+use mathlib.Core.Path.{◌≡◌}
 use lib.ListN.{drop}
-use borrow.Author.Rules.{rules}
-use Rattle.runs.specs.Words.{offset}
 use Rattle.runs.specs.Orders.{climbs, sharp}
 use Rattle.runs.specs.Bytes.{words}
-use Rattle.runs.proofs.Laws.Orders.{taken, sharp_none, sharp_bad, sharp_in, strict_more, strict_bad, strict_end}
-use Rattle.runs.proofs.Laws.Bytes.{length_words, word_there, word_first}
 use Rattle.runs.proofs.bytes.sharp_words.Given as goal
 
 abbrev pub invariant-loop-i : goal.invariant-loop-i

@@ -1,5 +1,4 @@
 -- `runs::bytes::uncolored` meets its contract.
-use borrow.Author.Rules.{rules}
 use Rattle.runs.proofs.bytes.uncolored.Goals as goal
 
 pub returns-in-Whole : goal.returns-in-Whole

@@ -3,7 +3,6 @@ use Prim.Native.Nat.{ℕ}
 use mathlib.Core.Path.{◌≡◌, ap, ◌∙◌}
 use native.Mathlib.Omega.{arith}
 use lib.ListN.{length}
-use borrow.Author.Rules.{rules}
 use Rattle.base.specs.Parts.{over}
 use Rattle.codec.specs.Prefix.{prefix_of}
 use Rattle.runs.specs.Reverse.{oriented}

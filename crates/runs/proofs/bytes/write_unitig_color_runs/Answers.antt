@@ -2,9 +2,7 @@
 use Prim.Native.Nat.{◌+◌, ◌*◌, ◌≤◌}
 use native.Mathlib.Omega.{arith}
 use lib.ListN.{length}
-use borrow.Author.Rules.{rules}
 use Rattle.codec.specs.Prefix.{prefix_of}
-use Rattle.runs.proofs.Laws.Orders.{taken}
 use Rattle.runs.proofs.Laws.Bytes.{write_6, write_3, write_done, room, wrote, counted}
 use Rattle.runs.proofs.bytes.write_unitig_color_runs.Goals as goal
 

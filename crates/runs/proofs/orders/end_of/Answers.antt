@@ -4,7 +4,6 @@ use mathlib.Core.Path.{sym, ap, ◌∙◌}
 use native.Mathlib.Omega.{arith}
 use native.Mathlib.Numerals.{add-one}
 use lib.ListN.{get_or, drop_of_length-le}
-use borrow.Author.Rules.{rules}
 use Rattle.runs.specs.Words.{offset}
 use Rattle.runs.specs.Colours.{next}
 use Rattle.runs.proofs.Laws.Orders.{run_begins as begins-at}

@@ -1,5 +1,4 @@
 -- `runs::orders::fall_at` meets its contract.
-use borrow.Author.Rules.{rules}
 use Rattle.runs.proofs.Laws.Falls.{fall_is, fall_low}
 use Rattle.runs.proofs.orders.fall_at.Goals as goal
 

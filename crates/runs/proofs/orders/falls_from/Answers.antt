@@ -1,9 +1,4 @@
-use Prim.Native.Nat.{◌-◌, ◌≤◌, ◌<◌}
-use mathlib.Core.Path.{◌≡◌}
 use native.Mathlib.Omega.{arith}
-use lib.ListN.{length}
-use borrow.Author.Rules.{rules}
-use Rattle.runs.specs.Inside.Falls.{falls}
 use Rattle.runs.proofs.Laws.Falls.{falls_none, falls_next, falls_end}
 use Rattle.runs.proofs.orders.falls_from.Goals as goal
 

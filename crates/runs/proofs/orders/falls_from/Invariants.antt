@@ -1,11 +1,8 @@
 -- `runs::orders::falls_from` meets its contract.
 use Prim.Native.Nat.{◌-◌, ◌≤◌, ◌<◌}
 use mathlib.Core.Path.{◌≡◌}
-use native.Mathlib.Omega.{arith}
 use lib.ListN.{length}
-use borrow.Author.Rules.{rules}
 use Rattle.runs.specs.Inside.Falls.{falls}
-use Rattle.runs.proofs.Laws.Falls.{falls_none, falls_next, falls_end}
 use Rattle.runs.proofs.orders.falls_from.Given as goal
 
 abbrev pub invariant-loop-i : goal.invariant-loop-i

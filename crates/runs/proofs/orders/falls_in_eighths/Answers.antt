@@ -1,8 +1,5 @@
-use Prim.Native.Nat.{◌-◌, ◌*◌, ◌≤◌}
-use mathlib.Core.Path.{◌≡◌}
 use native.Mathlib.Omega.{arith}
-use borrow.Author.Rules.{rules}
-use Rattle.runs.proofs.Laws.Falls.{in_eighths, eighths_none, eighths_more, eighths_end}
+use Rattle.runs.proofs.Laws.Falls.{eighths_none, eighths_more, eighths_end}
 use Rattle.runs.proofs.orders.falls_in_eighths.Goals as goal
 
 pub loop-i-init : goal.loop-i-init

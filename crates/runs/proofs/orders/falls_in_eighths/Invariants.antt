@@ -1,9 +1,7 @@
 -- `runs::orders::falls_in_eighths` meets its contract.
 use Prim.Native.Nat.{◌-◌, ◌*◌, ◌≤◌}
 use mathlib.Core.Path.{◌≡◌}
-use native.Mathlib.Omega.{arith}
-use borrow.Author.Rules.{rules}
-use Rattle.runs.proofs.Laws.Falls.{in_eighths, eighths_none, eighths_more, eighths_end}
+use Rattle.runs.proofs.Laws.Falls.{in_eighths}
 use Rattle.runs.proofs.orders.falls_in_eighths.Given as goal
 
 abbrev pub invariant-loop-i : goal.invariant-loop-i

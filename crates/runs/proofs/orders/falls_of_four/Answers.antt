@@ -1,6 +1,5 @@
 -- `runs::orders::falls_of_four` meets its contract.
 use native.Mathlib.Omega.{arith}
-use borrow.Author.Rules.{rules}
 use Rattle.runs.proofs.Laws.Falls.{four_is}
 use Rattle.runs.proofs.orders.falls_of_four.Goals as goal
 

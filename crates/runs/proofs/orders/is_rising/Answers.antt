@@ -4,7 +4,6 @@ use mathlib.Core.Path.{sym, ap, ◌∙◌, subst}
 use native.Mathlib.Omega.{arith}
 use lib.ListN.{length}
 use lib.Dec.{eqb}
-use borrow.Author.Rules.{rules}
 use Rattle.runs.proofs.Laws.Falls.{falls_early, falls_late}
 use Rattle.runs.proofs.orders.is_rising.Goals as goal
 

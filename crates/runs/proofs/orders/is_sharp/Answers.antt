@@ -2,7 +2,6 @@
 use Prim.Native.Nat.{ℕ}
 use mathlib.Core.Path.{sym, ap, ◌∙◌}
 use lib.Dec.{ltb}
-use borrow.Author.Rules.{rules}
 use borrow.Author.Tests.{not-true, not-false}
 use Rattle.runs.proofs.Laws.Orders.{sharp_none, sharp_bad}
 use Rattle.runs.proofs.Laws.Falls.{sharp_falls, sharp_last}

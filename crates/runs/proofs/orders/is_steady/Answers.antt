@@ -2,7 +2,6 @@
 use Prim.Native.Nat.{ℕ}
 use mathlib.Core.Path.{sym, ap, ◌∙◌}
 use lib.Dec.{leb}
-use borrow.Author.Rules.{rules}
 use borrow.Author.Tests.{not-true, not-false}
 use Rattle.runs.proofs.Laws.Orders.{steady_none, steady_bad}
 use Rattle.runs.proofs.Laws.Falls.{steady_falls, steady_last}

@@ -1,6 +1,4 @@
 -- `runs::orders::last_coordinate` meets its contract.
-use borrow.Author.Rules.{rules}
-use Rattle.runs.proofs.Laws.Orders.{taken}
 use Rattle.runs.proofs.Laws.Colours.{last_none}
 use Rattle.runs.proofs.orders.last_coordinate.Goals as goal
 

@@ -3,9 +3,7 @@ use Prim.Native.Nat.{ℕ, ◌-◌}
 use mathlib.Core.Path.{sym, ap, ◌∙◌}
 use native.Mathlib.Omega.{arith}
 use lib.ListN.{length}
-use borrow.Author.Rules.{rules}
-use Rattle.runs.specs.Words.{offset}
-use Rattle.runs.proofs.Laws.Orders.{taken, offset_le}
+use Rattle.runs.proofs.Laws.Orders.{offset_le}
 use Rattle.runs.proofs.Laws.Reverse.{oriented_end_yes, oriented_end_no}
 use Rattle.runs.proofs.reverse.end_at.Goals as goal
 

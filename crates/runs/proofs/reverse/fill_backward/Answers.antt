@@ -1,12 +1,10 @@
-use Prim.Native.Nat.{◌+◌, ◌-◌, ◌≤◌}
-use mathlib.Core.Path.{◌≡◌, refl}
+use Prim.Native.Nat.{◌-◌}
+use mathlib.Core.Path.{refl}
 use native.Mathlib.Omega.{arith}
-use lib.ListN.{length, drop}
-use borrow.Author.Rules.{rules}
+use lib.ListN.{length}
 use Rattle.runs.specs.Reverse.{reverse_runs}
-use Rattle.runs.specs.Append.{shifted}
 use Rattle.runs.proofs.Laws.Orders.{offset_le}
-use Rattle.runs.proofs.Laws.Lists.{Filled, fill_none}
+use Rattle.runs.proofs.Laws.Lists.{fill_none}
 use Rattle.runs.proofs.Laws.Reverse.{length_reversed}
 use Rattle.runs.proofs.Laws.Fill.{backward_more, rest_end}
 use Rattle.runs.proofs.reverse.fill_backward.Goals as goal

@@ -1,15 +1,10 @@
 -- `runs::reverse::fill_backward` meets its contract.
 use Prim.Native.Nat.{◌+◌, ◌-◌, ◌≤◌}
-use mathlib.Core.Path.{◌≡◌, refl}
-use native.Mathlib.Omega.{arith}
+use mathlib.Core.Path.{◌≡◌}
 use lib.ListN.{length, drop}
-use borrow.Author.Rules.{rules}
 use Rattle.runs.specs.Reverse.{reverse_runs}
 use Rattle.runs.specs.Append.{shifted}
-use Rattle.runs.proofs.Laws.Orders.{offset_le}
-use Rattle.runs.proofs.Laws.Lists.{Filled, fill_none}
-use Rattle.runs.proofs.Laws.Reverse.{length_reversed}
-use Rattle.runs.proofs.Laws.Fill.{backward_more, rest_end}
+use Rattle.runs.proofs.Laws.Lists.{Filled}
 use Rattle.runs.proofs.reverse.fill_backward.Given as goal
 
 abbrev pub invariant-loop-i : goal.invariant-loop-i

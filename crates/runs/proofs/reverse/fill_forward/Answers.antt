@@ -1,9 +1,6 @@
-use Prim.Native.Nat.{◌+◌, ◌-◌, ◌≤◌}
+use Prim.Native.Nat.{◌+◌}
 use native.Mathlib.Omega.{arith}
-use lib.ListN.{length, drop}
-use borrow.Author.Rules.{rules}
-use Rattle.runs.specs.Append.{shifted}
-use Rattle.runs.proofs.Laws.Lists.{Filled, fill_none}
+use Rattle.runs.proofs.Laws.Lists.{fill_none}
 use Rattle.runs.proofs.Laws.Fill.{forward_more, rest_end}
 use Rattle.runs.proofs.reverse.fill_forward.Goals as goal
 

@@ -1,11 +1,8 @@
 -- `runs::reverse::fill_forward` meets its contract.
-use Prim.Native.Nat.{◌+◌, ◌-◌, ◌≤◌}
-use native.Mathlib.Omega.{arith}
+use Prim.Native.Nat.{◌-◌, ◌≤◌}
 use lib.ListN.{length, drop}
-use borrow.Author.Rules.{rules}
 use Rattle.runs.specs.Append.{shifted}
-use Rattle.runs.proofs.Laws.Lists.{Filled, fill_none}
-use Rattle.runs.proofs.Laws.Fill.{forward_more, rest_end}
+use Rattle.runs.proofs.Laws.Lists.{Filled}
 use Rattle.runs.proofs.reverse.fill_forward.Given as goal
 
 abbrev pub invariant-loop-i : goal.invariant-loop-i

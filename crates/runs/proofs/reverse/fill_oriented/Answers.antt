@@ -3,7 +3,6 @@ use Prim.Native.Nat.{ℕ, ◌<◌}
 use mathlib.Core.Path.{sym, subst}
 use native.Mathlib.Omega.{arith}
 use lib.ListN.{length}
-use borrow.Author.Rules.{rules}
 use Rattle.runs.proofs.Laws.Fill.{put_none, first_narrow, front_room, put_first}
 use Rattle.runs.proofs.reverse.fill_oriented.Goals as goal
 

@@ -3,7 +3,6 @@ use Prim.Native.Nat.{ℕ}
 use mathlib.Core.Path.{sym, ap, ◌∙◌}
 use mathlib.Core.List.{List}
 use lib.ListN.{drop}
-use borrow.Author.Rules.{rules}
 use Rattle.base.specs.Parts.{over}
 use Rattle.runs.specs.Append.{shifted}
 use Rattle.runs.proofs.Laws.Reverse.{oriented_yes, oriented_no}

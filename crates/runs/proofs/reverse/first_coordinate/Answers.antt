@@ -1,9 +1,6 @@
 -- `runs::reverse::first_coordinate` meets its contract.
 use mathlib.Core.Path.{◌∙◌}
 use native.Mathlib.Omega.{arith}
-use borrow.Author.Rules.{rules}
-use Rattle.runs.specs.Words.{coordinate}
-use Rattle.runs.proofs.Laws.Orders.{taken}
 use Rattle.runs.proofs.Laws.Reverse.{first_none, first_yes, first_no}
 use Rattle.runs.proofs.reverse.first_coordinate.Goals as goal
 

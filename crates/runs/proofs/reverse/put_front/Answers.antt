@@ -1,5 +1,4 @@
 -- `runs::reverse::put_front` meets its contract.
-use borrow.Author.Rules.{rules}
 use Rattle.runs.proofs.Laws.Fill.{front_is}
 use Rattle.runs.proofs.reverse.put_front.Goals as goal
 

@@ -1,6 +1,5 @@
 -- `runs::reverse::reverse_color_runs_in_place` meets its contract.
 use mathlib.Core.Path.{sym, ◌∙◌}
-use borrow.Author.Rules.{rules}
 use borrow.Author.Tests.{not-true, not-false}
 use Rattle.runs.proofs.Laws.Orders.{taken}
 use Rattle.runs.proofs.Laws.Answers.{place-7, place-6, place-done}

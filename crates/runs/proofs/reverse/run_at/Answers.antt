@@ -3,9 +3,8 @@ use Prim.Native.Nat.{ℕ, ◌-◌}
 use mathlib.Core.Path.{sym, ap, ◌∙◌}
 use native.Mathlib.Omega.{arith}
 use lib.ListN.{length, get_or}
-use borrow.Author.Rules.{rules}
 use Rattle.runs.specs.Words.{coordinate, pack}
-use Rattle.runs.proofs.Laws.Orders.{taken, end_le}
+use Rattle.runs.proofs.Laws.Orders.{end_le}
 use Rattle.runs.proofs.Laws.Reverse.{oriented_at_yes, oriented_at_no}
 use Rattle.runs.proofs.reverse.run_at.Goals as goal
 

@@ -1,7 +1,6 @@
 -- `runs::rotate::begins_at` meets its contract.
 use borrow.Author.Tests.{eq-eqb, ne_eqb}
 use Rattle.runs.specs.Inside.Cursor.{begins}
-use Rattle.runs.proofs.Laws.Orders.{taken}
 use Rattle.runs.proofs.rotate.begins_at.Goals as goal
 
 pub returns-then-at-eq0 : goal.returns-then-at-eq0

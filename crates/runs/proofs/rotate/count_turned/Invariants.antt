@@ -1,14 +1,9 @@
 -- `runs::rotate::count_turned` meets its contract.
-use Prim.Native.Nat.{ℕ, ◌+◌, ◌-◌, ◌≤◌, ◌<◌}
-use mathlib.Core.Path.{◌≡◌, sym, ap}
-use native.Mathlib.Omega.{arith}
-use native.Mathlib.Nat.{zero-add}
+use Prim.Native.Nat.{◌+◌, ◌-◌, ◌≤◌}
+use mathlib.Core.Path.{◌≡◌}
 use lib.ListN.{length}
-use borrow.Author.Rules.{rules}
 use Rattle.runs.specs.Reverse.{oriented}
 use Rattle.runs.specs.Inside.Cursor.{runs_from_step}
-use Rattle.runs.proofs.Laws.Reverse.{oriented_long, oriented_steady}
-use Rattle.runs.proofs.Laws.Cursor.{at_end, one_more}
 use Rattle.runs.proofs.rotate.count_turned.Given as goal
 
 abbrev pub invariant-loop-n : goal.invariant-loop-n

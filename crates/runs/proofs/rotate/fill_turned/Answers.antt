@@ -1,12 +1,9 @@
-use Prim.Native.Nat.{◌+◌, ◌-◌, ◌≤◌}
 use mathlib.Core.Path.{◌≡◌, refl, ◌∙◌}
 use native.Mathlib.Omega.{arith}
-use lib.ListN.{length, drop}
-use borrow.Author.Rules.{rules}
-use Rattle.runs.specs.Words.{pack}
+use lib.ListN.{length}
 use Rattle.runs.specs.Reverse.{oriented}
 use Rattle.runs.specs.Inside.Cursor.{runs_from_step}
-use Rattle.runs.proofs.Laws.Lists.{Filled, fill_none, fill_more, fill_end}
+use Rattle.runs.proofs.Laws.Lists.{fill_none, fill_more, fill_end}
 use Rattle.runs.proofs.Laws.Reverse.{oriented_long, oriented_steady}
 use Rattle.runs.proofs.Laws.Cursor.{goes, run_is, rest_is, run_small}
 use Rattle.runs.proofs.rotate.fill_turned.Goals as goal

@@ -1,15 +1,10 @@
 -- `runs::rotate::fill_turned` meets its contract.
 use Prim.Native.Nat.{◌+◌, ◌-◌, ◌≤◌}
-use mathlib.Core.Path.{◌≡◌, refl, ◌∙◌}
-use native.Mathlib.Omega.{arith}
+use mathlib.Core.Path.{◌≡◌}
 use lib.ListN.{length, drop}
-use borrow.Author.Rules.{rules}
-use Rattle.runs.specs.Words.{pack}
 use Rattle.runs.specs.Reverse.{oriented}
 use Rattle.runs.specs.Inside.Cursor.{runs_from_step}
-use Rattle.runs.proofs.Laws.Lists.{Filled, fill_none, fill_more, fill_end}
-use Rattle.runs.proofs.Laws.Reverse.{oriented_long, oriented_steady}
-use Rattle.runs.proofs.Laws.Cursor.{goes, run_is, rest_is, run_small}
+use Rattle.runs.proofs.Laws.Lists.{Filled}
 use Rattle.runs.proofs.rotate.fill_turned.Given as goal
 
 abbrev pub invariant-loop-i : goal.invariant-loop-i

@@ -1,13 +1,11 @@
-use Prim.Native.Nat.{ℕ, ◌+◌, ◌-◌, ◌≤◌, ◌<◌}
+use Prim.Native.Nat.{ℕ, ◌+◌, ◌<◌}
 use mathlib.Core.Path.{◌≡◌, refl, sym, ap₂, ◌∙◌}
-use mathlib.Core.Logic.{⊎_elim}
 use native.Mathlib.Omega.{arith}
 use lib.ListN.{length}
 use borrow.Author.Rules.{rules}
 use Rattle.base.proofs.Bools.{via}
 use Rattle.runs.specs.Reverse.{oriented}
 use Rattle.runs.specs.Inside.Cursor.{begins, runs_from_step}
-use Rattle.runs.proofs.Laws.Orders.{taken, run_begins as begins-at}
 use Rattle.runs.proofs.Laws.Reverse.{oriented_long, oriented_steady}
 use Rattle.runs.proofs.Laws.Cursor.{pass_none, pass_same}
 use Rattle.runs.proofs.rotate.next_step.Goals as goal

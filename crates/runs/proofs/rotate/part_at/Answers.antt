@@ -3,7 +3,6 @@ use Prim.Native.Nat.{ℕ, ◌+◌, ◌-◌, min}
 use mathlib.Core.Path.{◌≡◌, sym, ap, ◌∙◌}
 use native.Mathlib.Omega.{arith}
 use lib.ListN.{length, get_or}
-use borrow.Author.Rules.{rules}
 use Rattle.runs.specs.Words.{offset, coordinate}
 use Rattle.runs.specs.Colours.{end_at}
 use Rattle.runs.specs.Reverse.{oriented}

@@ -2,7 +2,6 @@
 use Prim.Native.Nat.{◌+◌}
 use native.Mathlib.Omega.{arith}
 use lib.ListN.{set, length-set}
-use borrow.Author.Rules.{rules}
 use Rattle.runs.proofs.swap.put_four.Goals as goal
 
 pub bounds-runs-p-2 : goal.bounds-runs-p-2

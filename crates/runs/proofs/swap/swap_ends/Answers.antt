@@ -1,11 +1,8 @@
 use Prim.Native.Nat.{ℕ, ◌+◌, ◌-◌, ◌≤◌, ◌<◌}
 use mathlib.Core.Path.{◌≡◌, refl, sym, ap, subst, ◌∙◌}
-use mathlib.Core.List.{List}
 use native.Mathlib.Omega.{arith}
 use lib.ListN.{length, get_or, length-set}
-use borrow.Author.Rules.{rules}
 use Rattle.runs.specs.Words.{offset, coordinate, pack}
-use Rattle.runs.specs.Inside.Swap.{Swapped}
 use Rattle.runs.proofs.Laws.Orders.{end_le, offset_le}
 use Rattle.runs.proofs.Laws.Swap.{swap_end, swap_mid, swap_step}
 use Rattle.runs.proofs.swap.swap_ends.Goals as goal

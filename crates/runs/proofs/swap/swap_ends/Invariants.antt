@@ -1,14 +1,10 @@
 -- `runs::swap::swap_ends` meets its contract.
-use Prim.Native.Nat.{ℕ, ◌+◌, ◌-◌, ◌≤◌, ◌<◌}
-use mathlib.Core.Path.{◌≡◌, refl, sym, ap, subst, ◌∙◌}
+use Prim.Native.Nat.{ℕ, ◌-◌}
+use mathlib.Core.Path.{◌≡◌}
 use mathlib.Core.List.{List}
-use native.Mathlib.Omega.{arith}
-use lib.ListN.{length, get_or, length-set}
-use borrow.Author.Rules.{rules}
-use Rattle.runs.specs.Words.{offset, coordinate, pack}
+use lib.ListN.{length}
+use Rattle.runs.specs.Words.{offset}
 use Rattle.runs.specs.Inside.Swap.{Swapped}
-use Rattle.runs.proofs.Laws.Orders.{end_le, offset_le}
-use Rattle.runs.proofs.Laws.Swap.{swap_end, swap_mid, swap_step}
 use Rattle.runs.proofs.swap.swap_ends.Given as goal
 
 -- whatever list was swapped so far, it still is

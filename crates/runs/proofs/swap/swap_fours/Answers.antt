@@ -1,8 +1,7 @@
 use Prim.Native.Nat.{ℕ, ◌+◌, ◌-◌, ◌<◌}
-use mathlib.Core.Path.{◌≡◌, refl, sym, ap, ◌∙◌, subst}
+use mathlib.Core.Path.{refl, sym, ap, ◌∙◌, subst}
 use mathlib.Core.List.{List}
 use lib.ListN.{length, get_or}
-use borrow.Author.Rules.{rules}
 use Rattle.runs.specs.Words.{offset}
 use Rattle.runs.specs.Inside.Swap.{Swapped, put_four}
 use Rattle.runs.proofs.Laws.Swap.{swap_first, low_within, high_within, length_four, swap_four, four_less}

@@ -1,12 +1,9 @@
 -- `runs::swap::swap_fours` meets its contract.
-use Prim.Native.Nat.{ℕ, ◌+◌, ◌-◌, ◌<◌}
-use mathlib.Core.Path.{◌≡◌, refl, sym, ap, ◌∙◌, subst}
-use mathlib.Core.List.{List}
-use lib.ListN.{length, get_or}
-use borrow.Author.Rules.{rules}
+use Prim.Native.Nat.{◌-◌}
+use mathlib.Core.Path.{◌≡◌}
+use lib.ListN.{length}
 use Rattle.runs.specs.Words.{offset}
-use Rattle.runs.specs.Inside.Swap.{Swapped, put_four}
-use Rattle.runs.proofs.Laws.Swap.{swap_first, low_within, high_within, length_four, swap_four, four_less}
+use Rattle.runs.specs.Inside.Swap.{Swapped}
 use Rattle.runs.proofs.swap.swap_fours.Given as goal
 
 abbrev pub invariant-loop-i : goal.invariant-loop-i

@@ -1,4 +1,3 @@
-use borrow.Author.Rules.{rules}
 use Rattle.store.specs.Altered.{altered_buffer}
 use Rattle.base.proofs.Tests.{tests, anys}
 use Rattle.store.proofs.altered.altered_buffer.Goals as goal

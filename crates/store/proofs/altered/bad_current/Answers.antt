@@ -1,4 +1,3 @@
-use borrow.Author.Rules.{rules}
 use Rattle.store.proofs.Laws.Tested.{currents}
 use Rattle.store.proofs.altered.bad_current.Goals as goal
 

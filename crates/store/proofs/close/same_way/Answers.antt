@@ -1,4 +1,3 @@
-use borrow.Author.Rules.{rules}
 use Rattle.store.proofs.Laws.Closing.{ways}
 use Rattle.store.proofs.close.same_way.Goals as goal
 

@@ -1,9 +1,6 @@
-use Prim.Native.Nat.{◌≤◌, ◌-◌}
-use mathlib.Core.Path.{◌≡◌, refl}
+use mathlib.Core.Path.{refl}
 use native.Mathlib.Omega.{arith}
-use lib.ListN.{length, drop}
 use borrow.Author.Rules.{rules}
-use Rattle.store.specs.Join.{all_named}
 use Rattle.store.proofs.Laws.Joining.{name_other, name_far, name_next, name_end}
 use Rattle.store.proofs.join.all_named.Goals as goal
 

@@ -1,10 +1,7 @@
 use Prim.Native.Nat.{◌≤◌, ◌-◌}
-use mathlib.Core.Path.{◌≡◌, refl}
-use native.Mathlib.Omega.{arith}
+use mathlib.Core.Path.{◌≡◌}
 use lib.ListN.{length, drop}
-use borrow.Author.Rules.{rules}
 use Rattle.store.specs.Join.{all_named}
-use Rattle.store.proofs.Laws.Joining.{name_other, name_far, name_next, name_end}
 use Rattle.store.proofs.join.all_named.Given as goal
 
 abbrev pub invariant-loop-i : goal.invariant-loop-i

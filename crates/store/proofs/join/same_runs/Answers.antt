@@ -1,9 +1,6 @@
-use Prim.Native.Nat.{◌≤◌, ◌-◌}
-use mathlib.Core.Path.{◌≡◌, refl}
+use mathlib.Core.Path.{refl}
 use native.Mathlib.Omega.{arith}
-use lib.ListN.{length, drop}
 use borrow.Author.Rules.{rules}
-use Rattle.codec.specs.Records.{same}
 use Rattle.store.proofs.Laws.Joining.{same_short, same_other, same_next, same_end}
 use Rattle.store.proofs.join.same_runs.Goals as goal
 

@@ -1,10 +1,7 @@
 use Prim.Native.Nat.{◌≤◌, ◌-◌}
-use mathlib.Core.Path.{◌≡◌, refl}
-use native.Mathlib.Omega.{arith}
+use mathlib.Core.Path.{◌≡◌}
 use lib.ListN.{length, drop}
-use borrow.Author.Rules.{rules}
 use Rattle.codec.specs.Records.{same}
-use Rattle.store.proofs.Laws.Joining.{same_short, same_other, same_next, same_end}
 use Rattle.store.proofs.join.same_runs.Given as goal
 
 abbrev pub invariant-loop-i : goal.invariant-loop-i

@@ -1,4 +1,3 @@
-use borrow.Author.Rules.{rules}
 use Rattle.store.proofs.Laws.Showing.{space_kept, space_not}
 use Rattle.store.proofs.show.damage_or.Goals as goal
 

@@ -1,4 +1,3 @@
-use borrow.Author.Rules.{rules}
 use Rattle.store.proofs.Laws.Showing.{read_given, read_refused}
 use Rattle.store.proofs.show.read_answer.Goals as goal
 

@@ -1,4 +1,3 @@
-use borrow.Author.Rules.{rules}
 use Rattle.store.specs.Start.{bad_cell_lengths}
 use Rattle.base.proofs.Tests.{tests, anys}
 use Rattle.store.proofs.start.bad_cell_lengths.Goals as goal

@@ -1,4 +1,3 @@
-use borrow.Author.Rules.{rules}
 use Rattle.store.specs.Start.{bad_limits}
 use Rattle.store.proofs.Laws.Tested.{ors}
 use Rattle.store.proofs.start.bad_limits.Goals as goal

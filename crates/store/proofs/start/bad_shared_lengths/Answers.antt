@@ -1,4 +1,3 @@
-use borrow.Author.Rules.{rules}
 use Rattle.store.specs.Start.{bad_shared_lengths}
 use Rattle.base.proofs.Tests.{anys}
 use Rattle.store.proofs.start.bad_shared_lengths.Goals as goal

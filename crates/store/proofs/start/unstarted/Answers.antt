@@ -1,4 +1,3 @@
-use borrow.Author.Rules.{rules}
 use Rattle.store.proofs.start.unstarted.Goals as goal
 
 pub returns : goal.returns

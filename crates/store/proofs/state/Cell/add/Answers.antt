@@ -1,4 +1,3 @@
-use borrow.Author.Rules.{rules}
 use Rattle.store.specs.Add.{add_cell}
 use Rattle.store.proofs.Laws.Tested.{by_gate_lem}
 use Rattle.store.proofs.Laws.Adding.{add_ready}

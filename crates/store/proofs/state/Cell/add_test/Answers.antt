@@ -1,4 +1,3 @@
-use borrow.Author.Rules.{rules}
 use Rattle.store.proofs.Laws.Adding.{adding_tests}
 use Rattle.store.proofs.state.Cell.add_test.Goals as goal
 

@@ -1,4 +1,3 @@
-use borrow.Author.Rules.{rules}
 use Rattle.store.specs.Altered.{altered_cell}
 use Rattle.base.proofs.Tests.{tests, anys}
 use Rattle.store.proofs.state.Cell.altered.Goals as goal

@@ -1,4 +1,3 @@
-use borrow.Author.Rules.{rules}
 use Rattle.store.proofs.Laws.Closing.{closed_refused, closed_again, closed_filed, close_ready}
 use Rattle.store.proofs.state.Cell.close.Goals as goal
 

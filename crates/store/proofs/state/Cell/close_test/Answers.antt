@@ -1,4 +1,3 @@
-use borrow.Author.Rules.{rules}
 use Rattle.store.proofs.Laws.Closing.{table_tests}
 use Rattle.store.proofs.state.Cell.close_test.Goals as goal
 

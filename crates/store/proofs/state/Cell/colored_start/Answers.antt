@@ -1,4 +1,3 @@
-use borrow.Author.Rules.{rules}
 use Rattle.store.proofs.Laws.Showing.{start_uncolored, start_colored}
 use Rattle.store.proofs.state.Cell.colored_start.Goals as goal
 

@@ -1,4 +1,3 @@
-use borrow.Author.Rules.{rules}
 use Rattle.store.proofs.Laws.Parts.{taken_long}
 use Rattle.store.proofs.Laws.Closing.{line_filed, cycle_filed}
 use Rattle.store.proofs.state.Cell.file_runs.Goals as goal

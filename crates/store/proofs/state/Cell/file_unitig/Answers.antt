@@ -1,4 +1,3 @@
-use borrow.Author.Rules.{rules}
 use native.Mathlib.Omega.{arith}
 use Rattle.store.proofs.Laws.Closing.{second_number, filed_full, filed_done, filed_small}
 use Rattle.store.proofs.state.Cell.file_unitig.Goals as goal

@@ -1,4 +1,3 @@
-use borrow.Author.Rules.{rules}
 use Rattle.store.proofs.Laws.Showing.{given_set}
 use Rattle.store.proofs.state.Cell.give.Goals as goal
 

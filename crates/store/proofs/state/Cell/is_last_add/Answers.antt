@@ -1,4 +1,3 @@
-use borrow.Author.Rules.{rules}
 use Rattle.store.proofs.Laws.Adding.{lasts}
 use Rattle.store.proofs.state.Cell.is_last_add.Goals as goal
 

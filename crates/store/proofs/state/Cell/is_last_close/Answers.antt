@@ -1,4 +1,3 @@
-use borrow.Author.Rules.{rules}
 use Rattle.store.proofs.Laws.Closing.{closed_lasts}
 use Rattle.store.proofs.state.Cell.is_last_close.Goals as goal
 

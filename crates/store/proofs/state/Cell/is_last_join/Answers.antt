@@ -1,4 +1,3 @@
-use borrow.Author.Rules.{rules}
 use Rattle.store.proofs.Laws.Joining.{joined_lasts}
 use Rattle.store.proofs.state.Cell.is_last_join.Goals as goal
 

@@ -1,4 +1,3 @@
-use borrow.Author.Rules.{rules}
 use Rattle.store.proofs.Laws.Adding.{opens}
 use Rattle.store.proofs.state.Cell.is_open.Goals as goal
 

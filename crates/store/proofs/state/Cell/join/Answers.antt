@@ -1,4 +1,3 @@
-use borrow.Author.Rules.{rules}
 use Rattle.store.specs.Join.{join_cell}
 use Rattle.store.proofs.Laws.Joining.{join_ready}
 use Rattle.store.proofs.Laws.Tested.{by_gate_lem}

@@ -1,4 +1,3 @@
-use borrow.Author.Rules.{rules}
 use Rattle.store.proofs.Laws.Tested.{by_sequence_lem}
 use Rattle.store.proofs.state.Cell.join_gate.Goals as goal
 

@@ -1,4 +1,3 @@
-use borrow.Author.Rules.{rules}
 use Rattle.store.proofs.Laws.Joining.{joined_filed}
 use Rattle.store.proofs.state.Cell.join_piece.Goals as goal
 

@@ -1,4 +1,3 @@
-use borrow.Author.Rules.{rules}
 use Rattle.store.proofs.Laws.Joining.{join_tests_cases, some_runs}
 use mathlib.Core.Path.{ap}
 use mathlib.Core.Bool.{Bool}

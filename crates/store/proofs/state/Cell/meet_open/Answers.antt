@@ -1,4 +1,3 @@
-use borrow.Author.Rules.{rules}
 use Rattle.store.proofs.Laws.Joining.{meetings}
 use Rattle.store.proofs.Laws.Parts.{taken_long}
 use Rattle.store.proofs.state.Cell.meet_open.Goals as goal

@@ -1,4 +1,3 @@
-use borrow.Author.Rules.{rules}
 use Rattle.store.proofs.Laws.Joining.{count_first, count_more}
 use Rattle.store.proofs.state.Cell.new_count.Goals as goal
 

@@ -1,4 +1,3 @@
-use borrow.Author.Rules.{rules}
 use Rattle.store.proofs.Laws.Adding.{spaces}
 use Rattle.store.proofs.state.Cell.no_space.Goals as goal
 

@@ -1,4 +1,3 @@
-use borrow.Author.Rules.{rules}
 use Rattle.store.proofs.Laws.Joining.{at_first, at_more}
 use Rattle.store.proofs.state.Cell.open_at.Goals as goal
 

@@ -1,4 +1,3 @@
-use borrow.Author.Rules.{rules}
 use Rattle.store.proofs.Laws.Joining.{spaces, open_within}
 use Rattle.store.proofs.state.Cell.open_space.Goals as goal
 

@@ -1,4 +1,3 @@
-use borrow.Author.Rules.{rules}
 use Rattle.store.proofs.Laws.Joining.{first_put, behind_put}
 use Rattle.store.proofs.state.Cell.put_open.Goals as goal
 

@@ -1,4 +1,3 @@
-use borrow.Author.Rules.{rules}
 use Rattle.store.proofs.Laws.Adding.{part_reads}
 use Rattle.store.proofs.state.Cell.reads_to.Goals as goal
 

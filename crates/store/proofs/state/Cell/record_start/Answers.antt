@@ -1,4 +1,3 @@
-use borrow.Author.Rules.{rules}
 use native.Mathlib.Omega.{arith}
 use Rattle.store.proofs.Laws.Adding.{record_starts, named_place}
 use Rattle.store.proofs.state.Cell.record_start.Goals as goal

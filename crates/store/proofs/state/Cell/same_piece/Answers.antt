@@ -1,4 +1,3 @@
-use borrow.Author.Rules.{rules}
 use Rattle.store.proofs.Laws.Joining.{pieces}
 use Rattle.store.proofs.Laws.Parts.{taken_long}
 use Rattle.store.proofs.state.Cell.same_piece.Goals as goal

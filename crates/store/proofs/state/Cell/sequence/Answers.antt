@@ -1,4 +1,3 @@
-use borrow.Author.Rules.{rules}
 use Rattle.store.proofs.Laws.Tested.{sequences}
 use Rattle.store.proofs.state.Cell.sequence.Goals as goal
 

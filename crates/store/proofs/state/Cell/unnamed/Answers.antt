@@ -1,4 +1,3 @@
-use borrow.Author.Rules.{rules}
 use Rattle.store.proofs.Laws.Adding.{unnameds}
 use Rattle.store.proofs.state.Cell.unnamed.Goals as goal
 

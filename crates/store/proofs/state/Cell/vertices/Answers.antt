@@ -1,4 +1,3 @@
-use borrow.Author.Rules.{rules}
 use Rattle.store.proofs.Laws.Closing.{count_open, count_none}
 use Rattle.store.proofs.state.Cell.vertices.Goals as goal
 

@@ -1,4 +1,3 @@
-use borrow.Author.Rules.{rules}
 use Rattle.store.specs.Altered.{altered_shared}
 use Rattle.base.proofs.Tests.{anys}
 use Rattle.store.proofs.state.Shared.altered.Goals as goal

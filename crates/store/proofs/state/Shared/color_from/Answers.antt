@@ -1,4 +1,3 @@
-use borrow.Author.Rules.{rules}
 use Rattle.store.proofs.Laws.Showing.{froms}
 use Rattle.store.proofs.state.Shared.color_from.Goals as goal
 

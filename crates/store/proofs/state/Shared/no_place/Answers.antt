@@ -1,4 +1,3 @@
-use borrow.Author.Rules.{rules}
 use Rattle.store.proofs.Laws.Showing.{place_unitig, place_vertex}
 use Rattle.store.proofs.state.Shared.no_place.Goals as goal
 

@@ -1,4 +1,3 @@
-use borrow.Author.Rules.{rules}
 use Rattle.store.specs.Add.{add_step}
 use Rattle.store.proofs.Laws.Tested.{said_unaltered, whens}
 use Rattle.store.proofs.Laws.Calls.{added}

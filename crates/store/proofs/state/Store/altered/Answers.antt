@@ -1,4 +1,3 @@
-use borrow.Author.Rules.{rules}
 use Rattle.store.specs.Altered.{altered}
 use Rattle.base.proofs.Tests.{anys}
 use Rattle.store.proofs.state.Store.altered.Goals as goal

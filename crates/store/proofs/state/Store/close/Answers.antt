@@ -1,4 +1,3 @@
-use borrow.Author.Rules.{rules}
 use Rattle.store.specs.Close.{close_step}
 use Rattle.store.proofs.Laws.Calls.{closed}
 use Rattle.store.proofs.Laws.Tested.{said_unaltered, whens}

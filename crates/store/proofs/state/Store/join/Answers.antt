@@ -1,4 +1,3 @@
-use borrow.Author.Rules.{rules}
 use Rattle.store.specs.Join.{join_step}
 use Rattle.store.proofs.Laws.Calls.{joined}
 use Rattle.store.proofs.Laws.Tested.{said_unaltered, whens}

@@ -1,4 +1,3 @@
-use borrow.Author.Rules.{rules}
 use native.Mathlib.Omega.{arith}
 use Rattle.store.proofs.Laws.Showing.{shows_cases, record_in}
 use Rattle.store.proofs.Laws.Tested.{said_unaltered}

@@ -1,4 +1,3 @@
-use borrow.Author.Rules.{rules}
 use Rattle.store.proofs.Laws.Calls.{start_fresh}
 use Rattle.store.proofs.Laws.Tested.{some_entry, starts}
 use Rattle.store.proofs.state.Store.start.Goals as goal
