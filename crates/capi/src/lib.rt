@@ -1,5 +1,5 @@
-// C entry points of the record and run operations. Each returns 0, or the number of the refusal; a
-// refusal leaves every lent place as it was. A slice passes as a pointer and then a length.
+// The record and run operations as C calls them: each returns 0, or the number of the refusal, and a refusal leaves
+// every lent place as it was. `capi_c` exports them.
 #![tactic(auto)]
 
 pub mod records; // records and their index

@@ -7,8 +7,7 @@ ghost use Rattle.capi.specs.Exports.{plain, one, two};
 use base::{Given, Made, Written};
 
 // The record of a set to the front of `out`; `written` bytes.
-#[unsafe(no_mangle)]
-pub extern "C" fn rf_write_record(n: u32, ids: &[u32], out: &mut [u8], written: &mut u64) -> u32
+pub fn rf_write_record(n: u32, ids: &[u32], out: &mut [u8], written: &mut u64) -> u32
     ensures { (result, written.new, out.new) ≡ one (write_record n ids.now out.old) written.old }
 {
     match codec::records::write_color_record(n, ids, out) {
@@ -21,8 +20,7 @@ pub extern "C" fn rf_write_record(n: u32, ids: &[u32], out: &mut [u8], written: 
 }
 
 // The set at the front of `input` to the front of `ids`; `given` ids, from `taken` bytes.
-#[unsafe(no_mangle)]
-pub extern "C" fn rf_read_record(
+pub fn rf_read_record(
     n: u32,
     input: &[u8],
     ids: &mut [u32],
@@ -42,8 +40,7 @@ pub extern "C" fn rf_read_record(
 }
 
 // Where each of the first `count` records begins, and where the last one ends.
-#[unsafe(no_mangle)]
-pub extern "C" fn rf_make_index(bytes: &[u8], count: u64, out: &mut [u64]) -> u32
+pub fn rf_make_index(bytes: &[u8], count: u64, out: &mut [u64]) -> u32
     ensures { (result, out.new) ≡ plain (make_index count bytes.now out.old) }
 {
     match codec::index::index_worker(bytes, count as usize, out) {

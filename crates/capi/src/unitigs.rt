@@ -11,8 +11,7 @@ use base::{Given, Written};
 use runs::append::Appended;
 
 // The list of the same colours from the other end; `count` runs.
-#[unsafe(no_mangle)]
-pub extern "C" fn rf_reverse_runs(runs: &[u64], n: u32, out: &mut [u64], count: &mut u64) -> u32
+pub fn rf_reverse_runs(runs: &[u64], n: u32, out: &mut [u64], count: &mut u64) -> u32
     ensures { (result, count.new, out.new) ≡ one (reverse_into runs.now n out.old) count.old }
 {
     match runs::reverse::reverse_color_runs(runs, n, out) {
@@ -25,8 +24,7 @@ pub extern "C" fn rf_reverse_runs(runs: &[u64], n: u32, out: &mut [u64], count: 
 }
 
 // The same in the place of the list itself.
-#[unsafe(no_mangle)]
-pub extern "C" fn rf_reverse_runs_in_place(runs: &mut [u64], n: u32, count: &mut u64) -> u32
+pub fn rf_reverse_runs_in_place(runs: &mut [u64], n: u32, count: &mut u64) -> u32
     ensures { (result, count.new, runs.new) ≡ one (reverse_in_place runs.old n) count.old }
 {
     match runs::reverse::reverse_color_runs_in_place(runs, n) {
@@ -40,8 +38,7 @@ pub extern "C" fn rf_reverse_runs_in_place(runs: &mut [u64], n: u32, count: &mut
 
 // A piece behind the `used` runs of an output of `out_count` vertices; the piece's first vertex is the
 // output's last. `count` runs and `vertices` then.
-#[unsafe(no_mangle)]
-pub extern "C" fn rf_append_runs(
+pub fn rf_append_runs(
     out: &mut [u64],
     used: u64,
     out_count: u32,
@@ -71,8 +68,7 @@ pub extern "C" fn rf_append_runs(
 }
 
 // A cycle, reversed first where wished, turned left by pivot mod n, equal neighbours merged; `count` runs.
-#[unsafe(no_mangle)]
-pub extern "C" fn rf_rotate_runs(
+pub fn rf_rotate_runs(
     runs: &[u64],
     n: u32,
     pivot: u32,
@@ -92,8 +88,7 @@ pub extern "C" fn rf_rotate_runs(
 }
 
 // The run bytes of a list; `written` bytes.
-#[unsafe(no_mangle)]
-pub extern "C" fn rf_write_runs(runs: &[u64], out: &mut [u8], written: &mut u64) -> u32
+pub fn rf_write_runs(runs: &[u64], out: &mut [u8], written: &mut u64) -> u32
     ensures { (result, written.new, out.new) ≡ one (write_runs runs.now out.old) written.old }
 {
     match runs::bytes::write_unitig_color_runs(runs, out) {
@@ -106,13 +101,7 @@ pub extern "C" fn rf_write_runs(runs: &[u64], out: &mut [u8], written: &mut u64)
 }
 
 // The list whose run bytes stand at the front; `given` runs, from `taken` bytes.
-#[unsafe(no_mangle)]
-pub extern "C" fn rf_read_runs(
-    bytes: &[u8],
-    out: &mut [u64],
-    given: &mut u64,
-    taken: &mut u64,
-) -> u32
+pub fn rf_read_runs(bytes: &[u8], out: &mut [u64], given: &mut u64, taken: &mut u64) -> u32
     ensures { (result, given.new, taken.new, out.new) ≡ two (read_runs_into bytes.now out.old) given.old taken.old }
 {
     match runs::bytes::read_unitig_color_runs(bytes, out) {
