@@ -1,4 +1,4 @@
-// Links the archive that `rt staticlib capi` writes at the root of the repository.
+// Links the archive that `host/archive.sh` makes, at the root of the repository.
 use std::path::Path;
 
 fn main() {
@@ -8,7 +8,7 @@ fn main() {
     if !archive.exists() {
         // Without this line the error is only that the linker finds no `capi`.
         println!(
-            "cargo:warning={} is missing: run `rt staticlib capi` at the root of the repository first",
+            "cargo:warning={} is missing: run `host/archive.sh` first",
             archive.display()
         );
     }

@@ -136,14 +136,15 @@ impl Tally {
     }
 }
 
-/// Runs a program of target/bin on this input; what it writes, if it ends well.
+/// Runs the program of this crate on this input; what it writes, if it ends well.
 fn run(program: &str, input: &str) -> Result<String, String> {
-    let path = Path::new(env!("CARGO_MANIFEST_DIR")).join("../../target/bin");
-    let mut child = Command::new(path.join(program))
+    let built = format!("crates/{program}/out/{program}");
+    let root = Path::new(env!("CARGO_MANIFEST_DIR")).join("../..");
+    let mut child = Command::new(root.join(&built))
         .stdin(Stdio::piped())
         .stdout(Stdio::piped())
         .spawn()
-        .map_err(|error| format!("target/bin/{program}: {error}"))?;
+        .map_err(|error| format!("{built}: {error}"))?;
     let mut stdin = child.stdin.take().ok_or("no standard input")?;
     std::thread::scope(|scope| {
         scope.spawn(move || stdin.write_all(input.as_bytes()));
