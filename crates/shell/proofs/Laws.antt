@@ -5,5 +5,6 @@ pub mod Numbers
 pub mod Pairs
 pub mod Hexes
 pub mod Lists
+pub mod Digits
 pub mod Texts
 pub mod Back

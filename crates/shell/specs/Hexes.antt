@@ -1,7 +1,7 @@
 -- Bytes as hexadecimal digits, two a byte, the high one first.
 use Rattle.std.specs.Prelude.{ℕ, ◌+◌, ◌-◌, ◌*◌, ◌/◌, ◌%◌, List, [], ◌∷◌, length, set, leb, ltb}
 use Rattle.base.specs.Tests.{◌when◌else◌}
-use Rattle.io.specs.Digits.{hex_digit_ascii}
+use Rattle.shell.specs.Digits.{hex_digit_ascii}
 use Rattle.shell.specs.declared.hexes.Hexed.{Hexed}
 use Rattle.shell.specs.declared.hexes.Hexed.TheVariants.{Done, Bad, Many}
 

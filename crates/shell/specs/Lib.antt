@@ -4,6 +4,7 @@ pub mod Numbers
 pub mod Pairs
 pub mod Hexes
 pub mod Lists
+pub mod Digits
 pub mod Texts
 pub mod Commands
 pub mod Reasons

@@ -1,7 +1,7 @@
 -- Text behind text in a buffer.
 use Rattle.std.specs.Prelude.{ℕ, ◌+◌, ◌≡◌, List, [], ◌∷◌, length, set, leb}
 use Rattle.base.specs.Tests.{◌when◌else◌}
-use Rattle.io.specs.Digits.{last_digits, IsDigitCount}
+use Rattle.shell.specs.Digits.{last_digits, IsDigitCount}
 
 -- the text from `at` on, as much of it as there is space for, and where it ends
 unfoldable pub put_at : List ℕ → ℕ → List ℕ → ℕ × List ℕ

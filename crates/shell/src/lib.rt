@@ -7,6 +7,7 @@ pub mod numbers; // decimal numbers
 pub mod pairs; // OFFSET:COORDINATE
 pub mod hexes; // bytes as hexadecimal digits
 pub mod lists; // numbers and runs to the end of a line
+mod digits; // a number as decimal digits
 pub mod texts; // text behind text in a buffer
 pub mod commands; // the first word of a line
 pub mod reasons; // refusals and faults in words

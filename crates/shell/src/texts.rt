@@ -1,7 +1,9 @@
 // Text behind text in a buffer.
 ghost use Rattle.std.specs.Prelude.{◌≡◌, [], ◌∷◌, ◌<◌, ◌/◌, ◌%◌};
-ghost use Rattle.io.specs.Digits.{hex_digit_ascii};
+ghost use Rattle.shell.specs.Digits.{hex_digit_ascii};
 ghost use Rattle.shell.specs.Texts.{put_at, Printed};
+
+use crate::digits::{decimal, glyph};
 
 // The text from `at` on, as much of it as there is space for; answers where it ends.
 pub fn put(text: &[u8], at: usize, out: &mut [u8]) -> usize
@@ -25,18 +27,8 @@ pub fn put_decimal(n: u64, at: usize, out: &mut [u8]) -> usize
     ensures { Printed n at out.old result out.new }
 {
     let mut digits = [0u8; 20];
-    let k = io::decimal(n, &mut digits);
+    let k = decimal(n, &mut digits);
     put(&digits[..k], at, out)
-}
-
-fn glyph(d: u8) -> u8
-    requires { d < 16 }
-    ensures { result ≡ hex_digit_ascii d }
-{
-    if d < 10 {
-        return 48 + d;
-    }
-    87 + d
 }
 
 // Two hexadecimal digits of a byte.

@@ -12,7 +12,7 @@ use borrow.Author.Tests.{le-ltb, le-leb, lt-leb, ltb-true, ltb-false}
 use Rattle.base.specs.Tests.{◌when◌else◌}
 use Rattle.base.specs.Parts.{over}
 use Rattle.base.proofs.Tests.{when_yes, when_no}
-use Rattle.io.specs.Digits.{last_digits, IsDigitCount, hex_digit_ascii}
+use Rattle.shell.specs.Digits.{last_digits, IsDigitCount, hex_digit_ascii}
 use Rattle.shell.specs.declared.numbers.Number.TheVariants.{Value, Large}
 use Rattle.shell.specs.declared.hexes.Hexed.TheVariants.{Done, Bad, Many}
 use Rattle.shell.specs.Numbers.{number_from, decimal_of}

@@ -10,7 +10,7 @@ use borrow.Author.Tests.{le-leb, lt-leb, lt-ltb, le-ltb}
 use Rattle.base.specs.Tests.{◌when◌else◌}
 use Rattle.base.proofs.Tests.{when_yes, when_no}
 use Rattle.base.specs.declared.Refusal.{Refusal}
-use Rattle.io.specs.Digits.{last_digits, IsDigitCount, hex_digit_ascii}
+use Rattle.shell.specs.Digits.{last_digits, IsDigitCount, hex_digit_ascii}
 use Rattle.shell.specs.declared.reasons.Fault.{Fault}
 use Rattle.shell.specs.Reasons.{reason_of, fault_of}
 use Rattle.shell.specs.Texts.{put_at, Printed}

@@ -1,6 +1,5 @@
 -- `shell::classes::is_end` meets its contract.
 use Rattle.shell.proofs.Laws.Spans.{kinds}
-use borrow.Author.Rules.{rules}
 use Rattle.shell.proofs.classes.is_end.Goals as goal
 
 pub returns-in-Blank : goal.returns-in-Blank

@@ -1,9 +1,5 @@
-use Prim.Native.Nat.{◌+◌, ◌-◌}
-use mathlib.Core.Path.{◌≡◌, refl}
-use lib.ListN.{length, drop}
-use Rattle.shell.specs.Classes.{span}
+use mathlib.Core.Path.{refl}
 use Rattle.shell.proofs.Laws.Spans.{span_stop, span_more, span_end}
-use borrow.Author.Rules.{rules}
 use Rattle.shell.proofs.classes.span.Goals as goal
 
 pub loop-i-init : goal.loop-i-init

@@ -1,10 +1,8 @@
 -- `shell::classes::span` meets its contract.
 use Prim.Native.Nat.{◌+◌, ◌-◌}
-use mathlib.Core.Path.{◌≡◌, refl}
+use mathlib.Core.Path.{◌≡◌}
 use lib.ListN.{length, drop}
 use Rattle.shell.specs.Classes.{span}
-use Rattle.shell.proofs.Laws.Spans.{span_stop, span_more, span_end}
-use borrow.Author.Rules.{rules}
 use Rattle.shell.proofs.classes.span.Given as goal
 
 abbrev pub invariant-loop-i : goal.invariant-loop-i

@@ -1,7 +1,6 @@
 -- `shell::commands::command_of` meets its contract.
 use Rattle.shell.proofs.Laws.Chosen.{said}
 use Rattle.shell.specs.Commands.{command_of}
-use borrow.Author.Rules.{rules}
 use Rattle.shell.proofs.commands.command_of.Goals as goal
 
 pub returns-then-same : goal.returns-then-same

@@ -1,7 +1,6 @@
 -- `shell::commands::other_of` meets its contract.
 use Rattle.shell.proofs.Laws.Chosen.{said}
 use Rattle.shell.specs.Commands.{other_of}
-use borrow.Author.Rules.{rules}
 use Rattle.shell.proofs.commands.other_of.Goals as goal
 
 pub returns-then-same : goal.returns-then-same

@@ -1,7 +1,6 @@
 -- `shell::commands::view_of` meets its contract.
 use Rattle.shell.proofs.Laws.Chosen.{said}
 use Rattle.shell.specs.Commands.{view_of}
-use borrow.Author.Rules.{rules}
 use Rattle.shell.proofs.commands.view_of.Goals as goal
 
 pub returns-then-same : goal.returns-then-same

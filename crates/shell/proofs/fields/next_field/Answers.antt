@@ -1,6 +1,5 @@
 -- `shell::fields::next_field` meets its contract.
 use Rattle.shell.proofs.Laws.Fields.{field_found, field_none}
-use borrow.Author.Rules.{rules}
 use Rattle.shell.proofs.fields.next_field.Goals as goal
 
 pub returns-then-start-end : goal.returns-then-start-end

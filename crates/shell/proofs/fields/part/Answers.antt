@@ -1,6 +1,5 @@
 -- `shell::fields::part` meets its contract.
 use Rattle.shell.proofs.Laws.Fields.{parts}
-use borrow.Author.Rules.{rules}
 use Rattle.shell.proofs.fields.part.Goals as goal
 
 pub returns-then-len-start : goal.returns-then-len-start

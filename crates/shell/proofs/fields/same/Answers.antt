@@ -1,8 +1,5 @@
-use Prim.Native.Nat.{◌-◌, ◌≤◌}
-use mathlib.Core.Path.{◌≡◌, refl}
+use mathlib.Core.Path.{refl}
 use native.Mathlib.Omega.{arith}
-use lib.ListN.{length, drop}
-use Rattle.shell.specs.Fields.{same}
 use Rattle.shell.proofs.Laws.Fields.{same_short, same_other, same_next, same_end}
 use borrow.Author.Rules.{rules}
 use Rattle.shell.proofs.fields.same.Goals as goal

@@ -1,11 +1,8 @@
 -- `shell::fields::same` meets its contract.
 use Prim.Native.Nat.{◌-◌, ◌≤◌}
-use mathlib.Core.Path.{◌≡◌, refl}
-use native.Mathlib.Omega.{arith}
+use mathlib.Core.Path.{◌≡◌}
 use lib.ListN.{length, drop}
 use Rattle.shell.specs.Fields.{same}
-use Rattle.shell.proofs.Laws.Fields.{same_short, same_other, same_next, same_end}
-use borrow.Author.Rules.{rules}
 use Rattle.shell.proofs.fields.same.Given as goal
 
 abbrev pub invariant-loop-i : goal.invariant-loop-i

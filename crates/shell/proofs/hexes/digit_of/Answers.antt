@@ -1,7 +1,6 @@
 -- `shell::hexes::digit_of` meets its contract.
 use Rattle.base.proofs.Tests.{tests}
 use Rattle.shell.specs.Hexes.{digit_of}
-use borrow.Author.Rules.{rules}
 use Rattle.shell.proofs.hexes.digit_of.Goals as goal
 
 pub returns-then-b-lt48 : goal.returns-then-b-lt48

@@ -1,8 +1,4 @@
-use Prim.Native.Nat.{◌-◌}
-use mathlib.Core.Path.{◌≡◌, refl}
-use native.Mathlib.Omega.{arith}
-use lib.ListN.{length, drop}
-use Rattle.shell.specs.Hexes.{unhex_at}
+use mathlib.Core.Path.{refl}
 use Rattle.shell.proofs.Laws.Hexes.{hex_odd, hex_high, hex_low, hex_many, hex_next, hex_end}
 use borrow.Author.Rules.{rules}
 use Rattle.shell.proofs.hexes.unhex.Goals as goal

@@ -1,11 +1,8 @@
 -- `shell::hexes::unhex` meets its contract.
 use Prim.Native.Nat.{◌-◌}
-use mathlib.Core.Path.{◌≡◌, refl}
-use native.Mathlib.Omega.{arith}
+use mathlib.Core.Path.{◌≡◌}
 use lib.ListN.{length, drop}
 use Rattle.shell.specs.Hexes.{unhex_at}
-use Rattle.shell.proofs.Laws.Hexes.{hex_odd, hex_high, hex_low, hex_many, hex_next, hex_end}
-use borrow.Author.Rules.{rules}
 use Rattle.shell.proofs.hexes.unhex.Given as goal
 
 abbrev pub invariant-loop-i : goal.invariant-loop-i

@@ -1,6 +1,5 @@
 -- `shell::lists::item_of` meets its contract.
 use Rattle.shell.proofs.Laws.Lists.{items}
-use borrow.Author.Rules.{rules}
 use Rattle.shell.proofs.lists.item_of.Goals as goal
 
 pub returns-in-Value : goal.returns-in-Value

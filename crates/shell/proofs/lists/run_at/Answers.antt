@@ -1,6 +1,5 @@
 -- `shell::lists::run_at` meets its contract.
 use Rattle.shell.proofs.Laws.Lists.{words}
-use borrow.Author.Rules.{rules}
 use Rattle.shell.proofs.lists.run_at.Goals as goal
 
 pub returns-in-Nothing : goal.returns-in-Nothing

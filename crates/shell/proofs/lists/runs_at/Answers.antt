@@ -1,7 +1,4 @@
-use Prim.Native.Nat.{◌-◌}
-use mathlib.Core.Path.{◌≡◌, refl}
-use lib.ListN.{length}
-use Rattle.shell.specs.Lists.{runs_from}
+use mathlib.Core.Path.{refl}
 use Rattle.shell.proofs.Laws.Lists.{list_none, list_wrong, list_many, list_same, list_end}
 use borrow.Author.Rules.{rules}
 use Rattle.shell.proofs.lists.runs_at.Goals as goal

@@ -1,10 +1,7 @@
 -- `shell::lists::runs_at` meets its contract.
-use Prim.Native.Nat.{◌-◌}
-use mathlib.Core.Path.{◌≡◌, refl}
+use mathlib.Core.Path.{◌≡◌}
 use lib.ListN.{length}
 use Rattle.shell.specs.Lists.{runs_from}
-use Rattle.shell.proofs.Laws.Lists.{list_none, list_wrong, list_many, list_same, list_end}
-use borrow.Author.Rules.{rules}
 use Rattle.shell.proofs.lists.runs_at.Given as goal
 
 abbrev pub invariant-loop-left : goal.invariant-loop-left

@@ -1,10 +1,5 @@
-use Prim.Native.Nat.{◌-◌, ◌≤◌}
-use mathlib.Core.Path.{◌≡◌}
 use native.Mathlib.Omega.{arith}
-use lib.ListN.{length, drop}
-use Rattle.shell.specs.Numbers.{decimal_of, number_from}
 use Rattle.shell.proofs.Laws.Numbers.{digits, number_start, number_next}
-use borrow.Author.Rules.{rules}
 use Rattle.shell.proofs.numbers.number_to.Goals as goal
 
 pub returns-then-text-eq0 : goal.returns-then-text-eq0

@@ -1,11 +1,8 @@
 -- `shell::numbers::number_to` meets its contract.
 use Prim.Native.Nat.{◌-◌, ◌≤◌}
 use mathlib.Core.Path.{◌≡◌}
-use native.Mathlib.Omega.{arith}
 use lib.ListN.{length, drop}
 use Rattle.shell.specs.Numbers.{decimal_of, number_from}
-use Rattle.shell.proofs.Laws.Numbers.{digits, number_start, number_next}
-use borrow.Author.Rules.{rules}
 use Rattle.shell.proofs.numbers.number_to.Given as goal
 
 abbrev pub invariant-loop-i : goal.invariant-loop-i

@@ -1,7 +1,6 @@
 -- `shell::pairs::pack` meets its contract.
 use Rattle.base.proofs.Tests.{tests}
 use Rattle.shell.specs.Pairs.{pack}
-use borrow.Author.Rules.{rules}
 use Rattle.shell.proofs.pairs.pack.Goals as goal
 
 pub returns-then-low-gt16777215 : goal.returns-then-low-gt16777215

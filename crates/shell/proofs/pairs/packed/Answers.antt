@@ -1,6 +1,5 @@
 -- `shell::pairs::packed` meets its contract.
 use Rattle.shell.proofs.Laws.Pairs.{pairs}
-use borrow.Author.Rules.{rules}
 use Rattle.shell.proofs.pairs.packed.Goals as goal
 
 pub returns-in-Value : goal.returns-in-Value

@@ -1,6 +1,5 @@
 -- `shell::pairs::pair` meets its contract.
 use Rattle.shell.proofs.Laws.Pairs.{pairs}
-use borrow.Author.Rules.{rules}
 use Rattle.shell.proofs.pairs.pair.Goals as goal
 
 pub returns-then-len-colon : goal.returns-then-len-colon

@@ -1,6 +1,5 @@
 -- `shell::reasons::put_fault` meets its contract.
 use Rattle.shell.proofs.Laws.Texts.{put_fault_lem}
-use borrow.Author.Rules.{rules}
 use Rattle.shell.proofs.reasons.put_fault.Goals as goal
 
 pub returns-in-Unknown : goal.returns-in-Unknown

@@ -1,6 +1,5 @@
 -- `shell::reasons::put_reason` meets its contract.
 use Rattle.shell.proofs.Laws.Texts.{put_reason_lem}
-use borrow.Author.Rules.{rules}
 use Rattle.shell.proofs.reasons.put_reason.Goals as goal
 
 pub returns-in-Colors : goal.returns-in-Colors

@@ -1,7 +1,4 @@
-use Prim.Native.Nat.{◌-◌}
-use mathlib.Core.Path.{◌≡◌, refl}
-use lib.ListN.{length, drop}
-use Rattle.shell.specs.Texts.{put_at}
+use mathlib.Core.Path.{refl}
 use Rattle.shell.proofs.Laws.Texts.{put_full, put_next, put_end}
 use borrow.Author.Rules.{rules}
 use Rattle.shell.proofs.texts.put.Goals as goal

@@ -1,10 +1,8 @@
 -- `shell::texts::put` meets its contract.
 use Prim.Native.Nat.{◌-◌}
-use mathlib.Core.Path.{◌≡◌, refl}
+use mathlib.Core.Path.{◌≡◌}
 use lib.ListN.{length, drop}
 use Rattle.shell.specs.Texts.{put_at}
-use Rattle.shell.proofs.Laws.Texts.{put_full, put_next, put_end}
-use borrow.Author.Rules.{rules}
 use Rattle.shell.proofs.texts.put.Given as goal
 
 abbrev pub invariant-loop-i : goal.invariant-loop-i

@@ -1,6 +1,5 @@
 -- `shell::texts::put_byte` meets its contract.
 use Rattle.shell.proofs.Laws.Texts.{put_two}
-use borrow.Author.Rules.{rules}
 use Rattle.shell.proofs.texts.put_byte.Goals as goal
 
 pub returns : goal.returns
