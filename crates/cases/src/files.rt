@@ -1,7 +1,7 @@
 // Record files of the reference, each beside each: whether the one is the beginning of the other, in bytes and in sets.
 // A line of the file `files` is a record file: its colour count, how many sets it holds, how many bytes, the bytes, and the
 // sets, each as its length and its ids. The work grows with the square of the lines.
-use libc::STDOUT_FILENO;
+use std::io;
 
 // What two files show.
 #[derive(Clone, Copy)]
@@ -186,9 +186,8 @@ fn pair_of(a: &[u64], b: &[u64]) -> Pair {
 fn beside_all(text: &[u8], a: &[u64], b: &mut [u64], before: Seen) -> Seen {
     let mut seen = before;
     let mut at: usize = 0;
-    // Turns are counted down, as in `replay`.
-    let mut turns = u64::MAX;
-    while turns > 0 {
+    // Turns are counted, as in `replay`.
+    for _ in 0..u64::MAX {
         if text.len() <= at {
             break;
         }
@@ -196,34 +195,31 @@ fn beside_all(text: &[u8], a: &[u64], b: &mut [u64], before: Seen) -> Seen {
         at = line.next;
         let k = crate::words_of(b, line.count);
         seen = counted(seen, pair_of(a, &b[..k]));
-        turns -= 1;
     }
     seen
 }
 
-fn tell(files: u64, misread: u64, seen: Seen) {
-    io::print_decimal(STDOUT_FILENO, files);
-    io::write_all(STDOUT_FILENO, b" record files, ");
-    io::print_decimal(STDOUT_FILENO, misread);
-    io::write_all(STDOUT_FILENO, b" misread\n");
-    io::print_decimal(STDOUT_FILENO, seen.pairs);
-    io::write_all(STDOUT_FILENO, b" pairs of one colour count: ");
-    io::print_decimal(STDOUT_FILENO, seen.beginnings);
-    io::write_all(
-        STDOUT_FILENO,
-        b" where the one is the beginning of the other in bytes and in sets, ",
-    );
-    io::print_decimal(STDOUT_FILENO, seen.alone);
-    io::write_all(STDOUT_FILENO, b" in one of them alone\n");
-    io::print_decimal(STDOUT_FILENO, seen.other_sets);
-    io::write_all(
-        STDOUT_FILENO,
-        b" pairs of two colour counts with equal bytes and other sets\n",
-    );
+fn tell(rt: &impl Print, files: u64, misread: u64, seen: Seen) -> io::Result<()> {
+    println!(rt; "{files} record files, {misread} misread")?;
+    println!(rt;
+        "{} pairs of one colour count: {} where the one is the beginning of the other in bytes and in sets, {} in one of them alone",
+        seen.pairs, seen.beginnings, seen.alone
+    )?;
+    println!(rt;
+        "{} pairs of two colour counts with equal bytes and other sets",
+        seen.other_sets
+    )
 }
 
 // Every file: that it is read back, and what it shows beside every one.
-fn compare(text: &[u8], a: &mut [u64], b: &mut [u64], bytes: &mut [u8], ids: &mut [u32]) {
+fn compare(
+    rt: &impl Print,
+    text: &[u8],
+    a: &mut [u64],
+    b: &mut [u64],
+    bytes: &mut [u8],
+    ids: &mut [u32],
+) -> io::Result<()> {
     let mut seen = Seen {
         pairs: 0,
         beginnings: 0,
@@ -233,8 +229,7 @@ fn compare(text: &[u8], a: &mut [u64], b: &mut [u64], bytes: &mut [u8], ids: &mu
     let mut files: u64 = 0;
     let mut misread: u64 = 0;
     let mut at: usize = 0;
-    let mut turns = u64::MAX;
-    while turns > 0 {
+    for _ in 0..u64::MAX {
         if text.len() <= at {
             break;
         }
@@ -246,15 +241,14 @@ fn compare(text: &[u8], a: &mut [u64], b: &mut [u64], bytes: &mut [u8], ids: &mu
             misread = one_more(misread);
         }
         seen = beside_all(text, &a[..k], b, seen);
-        turns -= 1;
     }
-    tell(files, misread, seen);
+    tell(rt, files, misread, seen)
 }
 
-pub(crate) fn compare_all(text: &[u8]) {
+pub(crate) fn compare_all(rt: &impl Print, text: &[u8]) -> io::Result<()> {
     let mut a = crate::number_buffer();
     let mut b = crate::number_buffer();
     let mut bytes = crate::byte_buffer();
     let mut ids = crate::id_buffer();
-    compare(text, &mut a, &mut b, &mut bytes, &mut ids);
+    compare(rt, text, &mut a, &mut b, &mut bytes, &mut ids)
 }

@@ -5,10 +5,11 @@
 
 mod files; // which record file is the beginning of which
 
-ghost use Rattle.std.specs.Prelude.{◌≡◌, length};
-ghost use Rattle.io.specs.Counts.{IsPrefixLen};
+ghost use Rattle.std.specs.Prelude.{◌≡◌, ◌≤◌, length, take, IfOk};
 
-use libc::STDOUT_FILENO;
+use shell::inputs;
+use std::rt::Files;
+use std::{fs, io};
 
 // The head of a line: what is called, with which numbers, how many places of output are lent, and the answer.
 #[derive(Clone, Copy)]
@@ -176,7 +177,8 @@ fn answered(c: Call, code: u32, given: u64, more: u64) -> bool {
 
 // As many places of a buffer as asked, or all where it has fewer: the call's answer then differs.
 fn bytes_of(buffer: &[u8], asked: usize) -> usize
-    ensures { IsPrefixLen result buffer.now }
+    ensures in_bounds { result ≤ length buffer.now }
+    ensures len { result ≡ length (take result buffer.now) }
 {
     if asked < buffer.len() {
         return asked;
@@ -185,7 +187,8 @@ fn bytes_of(buffer: &[u8], asked: usize) -> usize
 }
 
 fn ids_of(buffer: &[u32], asked: usize) -> usize
-    ensures { IsPrefixLen result buffer.now }
+    ensures in_bounds { result ≤ length buffer.now }
+    ensures len { result ≡ length (take result buffer.now) }
 {
     if asked < buffer.len() {
         return asked;
@@ -194,7 +197,8 @@ fn ids_of(buffer: &[u32], asked: usize) -> usize
 }
 
 fn words_of(buffer: &[u64], asked: usize) -> usize
-    ensures { IsPrefixLen result buffer.now }
+    ensures in_bounds { result ≤ length buffer.now }
+    ensures len { result ≡ length (take result buffer.now) }
 {
     if asked < buffer.len() {
         return asked;
@@ -415,29 +419,31 @@ fn differs(
     1
 }
 
-fn tell(line: u64, different: u64) {
+fn tell(rt: &impl Print, line: u64, different: u64) -> io::Result<()> {
     if different != 0 {
-        io::write_all(STDOUT_FILENO, b"differs: line ");
-        io::print_decimal(STDOUT_FILENO, line);
-        io::write_all(STDOUT_FILENO, b"\n");
+        return println!(rt; "differs: line {line}");
     }
+    Ok(())
 }
 
-fn tell_all(lines: u64, different: u64) {
-    io::print_decimal(STDOUT_FILENO, lines);
-    io::write_all(STDOUT_FILENO, b" recorded answers, ");
-    io::print_decimal(STDOUT_FILENO, different);
-    io::write_all(STDOUT_FILENO, b" differ\n");
+fn tell_all(rt: &impl Print, lines: u64, different: u64) -> io::Result<()> {
+    println!(rt; "{lines} recorded answers, {different} differ")
 }
 
-fn replay(text: &[u8], numbers: &mut [u64], bytes: &mut [u8], ids: &mut [u32], words: &mut [u64]) {
+fn replay(
+    rt: &impl Print,
+    text: &[u8],
+    numbers: &mut [u64],
+    bytes: &mut [u8],
+    ids: &mut [u32],
+    words: &mut [u64],
+) -> io::Result<()> {
     let mut at: usize = 0;
     let mut lines: u64 = 0;
     let mut different: u64 = 0;
-    // A loop has to end, and nothing here says that a line is longer than nothing: so the turns are counted down, from a
-    // number that no run uses up.
-    let mut turns = u64::MAX;
-    while turns > 0 {
+    // A loop has to end, and nothing here says that a line is longer than nothing: so the turns are counted, up to a
+    // number that no run reaches.
+    for _ in 0..u64::MAX {
         if text.len() <= at {
             break;
         }
@@ -446,10 +452,9 @@ fn replay(text: &[u8], numbers: &mut [u64], bytes: &mut [u8], ids: &mut [u32], w
         lines = std::num::wrapping_add_u64(lines, 1);
         let one = differs(numbers, line.count, bytes, ids, words);
         different = std::num::wrapping_add_u64(different, one);
-        tell(lines, one);
-        turns -= 1;
+        tell(rt, lines, one)?;
     }
-    tell_all(lines, different);
+    tell_all(rt, lines, different)
 }
 
 fn text_buffer() -> [u8; 262144]
@@ -483,32 +488,27 @@ fn word_buffer() -> [u64; 2048]
     [0; 2048]
 }
 
-fn replay_all(text: &[u8]) {
+fn replay_all(rt: &impl Print, text: &[u8]) -> io::Result<()> {
     let mut numbers = number_buffer();
     let mut bytes = byte_buffer();
     let mut ids = id_buffer();
     let mut words = word_buffer();
-    replay(text, &mut numbers, &mut bytes, &mut ids, &mut words);
+    replay(rt, text, &mut numbers, &mut bytes, &mut ids, &mut words)
 }
 
-// The bytes of a file, as many as there is space for; none where it can't be read.
-fn read_file(name: &[u8], text: &mut [u8]) -> usize
-    ensures { IsPrefixLen result text.new }
+// The bytes of a file, as many as there is space for.
+fn read_file(rt: &impl Files, name: &str, text: &mut [u8]) -> io::Result<usize>
+    ensures in_bounds { IfOk result (λ n. n ≤ length text.new) }
+    ensures len { IfOk result (λ n. n ≡ length (take n text.new)) }
 {
-    let fd = os::open_read(name);
-    if fd < 0 {
-        os::fail(name);
-        return 0;
-    }
-    let n = io::read_full(fd, text);
-    libc::close(fd);
-    n
+    let mut file = fs::open(rt, name)?;
+    inputs::read_full(&mut file, text)
 }
 
-fn main() {
+fn main(rt: HostRuntime) -> io::Result<()> {
     let mut text = text_buffer();
-    let n = read_file(b"answers", &mut text);
-    replay_all(&text[..n]);
-    let n = read_file(b"files", &mut text);
-    files::compare_all(&text[..n]);
+    let n = read_file(&rt, "answers", &mut text)?;
+    replay_all(&rt, &text[..n])?;
+    let n = read_file(&rt, "files", &mut text)?;
+    files::compare_all(&rt, &text[..n])
 }

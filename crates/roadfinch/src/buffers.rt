@@ -1,8 +1,17 @@
 // The memory of a run, on the stack: 5.3 MiB with the two buffers of 64 KiB for input and output. Above the store's calls each buffer goes by its
 // array type, which says how long it is: nothing has to be carried about its length from call to call.
 
+use std::io::Stdout;
+
 // What one read takes, or the answers that wait.
 pub type IoBuffer = [u8; 65536];
+
+// The answers that wait, and where they go.
+#[derive(Drop)]
+pub struct Output {
+    pub bytes: IoBuffer,
+    pub to: Stdout,
+}
 
 // A line.
 pub type LineBuffer = [u8; 786432];

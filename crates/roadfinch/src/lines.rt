@@ -6,6 +6,8 @@ use shell::commands::Command;
 use shell::fields::Field;
 use shell::reasons::Fault;
 use shell::{classes, commands, fields, texts};
+use std::io;
+use std::io::Read;
 
 // Where the input stands.
 #[derive(Clone, Copy)]
@@ -64,16 +66,6 @@ pub(crate) fn keep(p: InputState, chunk: &[u8], line: &mut LineBuffer) -> InputS
     }
 }
 
-// Reads once: how many bytes came, none where the input ends.
-fn more(input: &mut IoBuffer) -> usize {
-    let got = libc::read(0, input);
-    if got < 0 {
-        os::fail(b"standard input");
-        return 0;
-    }
-    io::count(got, input)
-}
-
 // The line end that closes a last line that has none.
 fn line_end(input: &mut IoBuffer) -> usize {
     input[0] = 10;
@@ -92,16 +84,20 @@ fn with_input(p: InputState, got: usize, last: bool, ended: bool) -> InputState 
     }
 }
 
-// The next bytes of input, behind the last of which one line end more stands.
-pub(crate) fn fetch(p: InputState, input: &mut IoBuffer) -> InputState {
+// The next bytes of input, which one read gives, behind the last of which one line end more stands.
+pub(crate) fn fetch<R: Read>(
+    p: InputState,
+    from: &mut R,
+    input: &mut IoBuffer,
+) -> io::Result<InputState> {
     if p.last {
-        return with_input(p, 0, true, true);
+        return Ok(with_input(p, 0, true, true));
     }
-    let got = more(input);
+    let got = from.read(input)?;
     if 0 < got {
-        return with_input(p, got, false, false);
+        return Ok(with_input(p, got, false, false));
     }
-    with_input(p, line_end(input), true, false)
+    Ok(with_input(p, line_end(input), true, false))
 }
 
 // What a line asks for. The words of the five calls, of encode and of decode are read when they are done.

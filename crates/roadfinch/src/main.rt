@@ -12,11 +12,13 @@ mod say; // answers into the output buffer
 mod help; // what help says
 mod views; // what the store holds
 
-use crate::buffers::{File, Ids, IoBuffer, LineBuffer, Space, Words32k, Words64k};
+use crate::buffers::{File, Ids, IoBuffer, LineBuffer, Output, Space, Words32k, Words64k};
 use crate::lines::{Action, InputState, Order};
 use crate::replies::{Outcome, Reply};
 use shell::commands::Command;
 use shell::{fields, lists};
+use std::io;
+use std::io::Stdin;
 use store::state::Store;
 
 // What is kept from turn to turn: where the input stands, the store, and how many bytes of answers wait.
@@ -30,26 +32,27 @@ pub struct Session {
 // The next part of a line. Where no input is left the answers go out before more is read, so that who waits for one has it.
 fn advance(
     session: Session,
+    from: &mut Stdin,
     input: &mut IoBuffer,
     line: &mut LineBuffer,
-    out: &IoBuffer,
-) -> Session {
+    out: &Output,
+) -> io::Result<Session> {
     let stood = session.place;
     let store = session.store;
     let place = lines::next_line(stood);
     if place.from < place.got {
-        return Session {
+        return Ok(Session {
             place: lines::keep(place, fields::part(input, 0, place.got), line),
             store,
             at: session.at,
-        };
+        });
     }
-    say::flush(session.at, out);
-    Session {
-        place: lines::fetch(place, input),
+    say::flush(session.at, out)?;
+    Ok(Session {
+        place: lines::fetch(place, from, input)?,
         store,
         at: 0,
-    }
+    })
 }
 
 // Does what a line asks for.
@@ -108,8 +111,8 @@ fn view(
     table: &Words32k,
     piece: &mut Words64k,
     at: usize,
-    out: &mut IoBuffer,
-) -> usize {
+    out: &mut Output,
+) -> io::Result<usize> {
     match command {
         Command::Records => views::records(store, records, at, out),
         Command::Index => views::index(store, index, at, out),
@@ -131,10 +134,10 @@ fn print(
     table: &Words32k,
     piece: &mut Words64k,
     at: usize,
-    out: &mut IoBuffer,
-) -> usize {
+    out: &mut Output,
+) -> io::Result<usize> {
     match reply {
-        Reply::Nothing => at,
+        Reply::Nothing => Ok(at),
         Reply::Done(value) => say::done(value, at, out),
         Reply::Ids(count) => say::listed(lists::front(ids, count), at, out),
         Reply::Bytes(len) => say::hex(fields::part(space, 0, len), at, out),
@@ -158,8 +161,8 @@ fn answer(
     held: &mut Words32k,
     runs: &mut File,
     table: &mut Words32k,
-    out: &mut IoBuffer,
-) -> Session {
+    out: &mut Output,
+) -> io::Result<Session> {
     let place = session.place;
     let before = session.store;
     let outcome = execute(
@@ -178,7 +181,7 @@ fn answer(
     );
     let store = outcome.store;
     let reply = outcome.reply;
-    Session {
+    Ok(Session {
         place,
         store,
         at: print(
@@ -194,12 +197,13 @@ fn answer(
             piece,
             session.at,
             out,
-        ),
-    }
+        )?,
+    })
 }
 
-// Nothing says that the input ends: the turns are counted down from a number that no run uses up.
+// Nothing says that the input ends: the turns are counted, up to a number that no run reaches.
 fn run(
+    from: &mut Stdin,
     input: &mut IoBuffer,
     line: &mut LineBuffer,
     ids: &mut Ids,
@@ -211,22 +215,20 @@ fn run(
     held: &mut Words32k,
     runs: &mut File,
     table: &mut Words32k,
-    out: &mut IoBuffer,
-) {
+    out: &mut Output,
+) -> io::Result<()> {
     let mut session = Session {
         place: lines::beginning(),
         store: replies::unstarted(),
         at: 0,
     };
-    let mut turns = u64::MAX;
-    while turns > 0 {
+    for _ in 0..u64::MAX {
         let place = session.place;
         if place.ended {
-            return;
+            break;
         }
-        turns -= 1;
         session = answer(
-            advance(session, input, line, out),
+            advance(session, from, input, line, out)?,
             line,
             ids,
             piece,
@@ -238,13 +240,17 @@ fn run(
             runs,
             table,
             out,
-        );
+        )?;
     }
+    Ok(())
 }
 
-fn main() {
+fn main(rt: HostRuntime) -> io::Result<()> {
     let mut input = [0u8; 65536];
-    let mut out = [0u8; 65536];
+    let mut out = Output {
+        bytes: [0u8; 65536],
+        to: rt.stdout(),
+    };
     let mut line = [0u8; 786432];
     let mut ids = [0u32; 65536];
     let mut piece = [0u64; 65536];
@@ -256,6 +262,7 @@ fn main() {
     let mut runs = [0u8; 1048576];
     let mut table = [0u64; 32768];
     run(
+        &mut rt.stdin(),
         &mut input,
         &mut line,
         &mut ids,
@@ -268,5 +275,5 @@ fn main() {
         &mut runs,
         &mut table,
         &mut out,
-    );
+    )
 }

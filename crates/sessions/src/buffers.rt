@@ -1,5 +1,7 @@
 // The memory of a run, on the stack. Each buffer goes by its array type, which says how long it is.
 
+use std::io::Stdout;
+
 // The whole input.
 pub type Text = [u8; 1048576];
 
@@ -26,5 +28,9 @@ pub type Bytes = [u8; 65536];
 // The index, the open runs, the held piece, or the unitig table.
 pub type Words = [u64; 8192];
 
-// The answers that wait.
-pub type IoBuffer = [u8; 65536];
+// The answers that wait, and where they go.
+#[derive(Drop)]
+pub struct Output {
+    pub bytes: [u8; 65536],
+    pub to: Stdout,
+}

@@ -9,12 +9,14 @@ mod say; // answers into the output buffer
 
 ghost use Rattle.std.specs.Prelude.{◌≤◌};
 
-use crate::buffers::{Bytes, Calls, Head, Ids, IoBuffer, Text, Told, ToldWide, Wide, Words};
+use crate::buffers::{Bytes, Calls, Head, Ids, Output, Text, Told, ToldWide, Wide, Words};
 use base::Made;
 use replay::Finished;
 use shell::classes::Class;
 use shell::lists::Listed;
-use shell::{classes, fields, lists};
+use shell::{classes, fields, inputs, lists};
+use std::io;
+use std::io::Stdin;
 
 // How many numbers the lines of a session have, and where the next session begins.
 #[derive(Clone, Copy)]
@@ -244,22 +246,22 @@ fn print(
     answers: &ToldWide,
     shown: &Ids,
     at: usize,
-    out: &mut IoBuffer,
-) -> usize {
-    let a = say::named(b"start ", code as u64, at, out);
-    let b = say::calls(called / 6, refusals, answers, a, out);
-    let c = say::ids(b"\nshown", shown, b, out);
+    out: &mut Output,
+) -> io::Result<usize> {
+    let a = say::named(b"start ", code as u64, at, out)?;
+    let b = say::calls(called / 6, refusals, answers, a, out)?;
+    let c = say::ids(b"\nshown", shown, b, out)?;
     let d = say::bytes(
         b"\nrecords ",
         fields::part(records, 0, place(head[2])),
         c,
         out,
-    );
-    let e = say::words(b"\nindex", lists::front_runs(index, place(head[3])), d, out);
-    let f = say::words(b"\nopen", lists::front_runs(opened, place(head[4])), e, out);
-    let g = say::words(b"\nheld", lists::front_runs(held, place(head[5])), f, out);
-    let h = say::bytes(b"\nruns ", fields::part(runs, 0, place(head[6])), g, out);
-    let i = say::words(b"\ntable", lists::front_runs(table, place(head[7])), h, out);
+    )?;
+    let e = say::words(b"\nindex", lists::front_runs(index, place(head[3])), d, out)?;
+    let f = say::words(b"\nopen", lists::front_runs(opened, place(head[4])), e, out)?;
+    let g = say::words(b"\nheld", lists::front_runs(held, place(head[5])), f, out)?;
+    let h = say::bytes(b"\nruns ", fields::part(runs, 0, place(head[6])), g, out)?;
+    let i = say::words(b"\ntable", lists::front_runs(table, place(head[7])), h, out)?;
     say::text(b"\n", i, out)
 }
 
@@ -271,8 +273,8 @@ fn run(
     ids: &Ids,
     pieces: &Wide,
     at: usize,
-    out: &mut IoBuffer,
-) -> usize {
+    out: &mut Output,
+) -> io::Result<usize> {
     let mut records: Bytes = [165; 65536];
     let mut index: Words = [165; 8192];
     let mut opened: Words = [165; 8192];
@@ -316,56 +318,59 @@ fn run(
     )
 }
 
-// Nothing says that a session is longer than nothing: the turns are counted down from a number that no run uses up.
+// Nothing says that a session is longer than nothing: the turns are counted, up to a number that no run reaches.
 fn run_all(
     text: &[u8],
     head: &mut Head,
     calls: &mut Calls,
     ids: &mut Ids,
     pieces: &mut Wide,
-    out: &mut IoBuffer,
-) {
+    out: &mut Output,
+) -> io::Result<()> {
     let mut from: usize = 0;
     let mut at: usize = 0;
-    let mut turns = u64::MAX;
-    while turns > 0 {
+    for _ in 0..u64::MAX {
         if text.len() <= from {
             break;
         }
-        turns -= 1;
         let counts = read(text, from, head, calls, ids, pieces);
-        at = run(head, counts, calls, ids, pieces, at, out);
+        at = run(head, counts, calls, ids, pieces, at, out)?;
         from = counts.next;
     }
-    say::flush(at, out);
+    say::flush(at, out)
 }
 
 // All of standard input, as far as it fits.
 fn run_input(
+    input: &mut Stdin,
     text: &mut Text,
     head: &mut Head,
     calls: &mut Calls,
     ids: &mut Ids,
     pieces: &mut Wide,
-    out: &mut IoBuffer,
-) {
-    let n = io::read_full(0, text);
-    run_all(fields::part(text, 0, n), head, calls, ids, pieces, out);
+    out: &mut Output,
+) -> io::Result<()> {
+    let n = inputs::read_full(input, text)?;
+    run_all(fields::part(text, 0, n), head, calls, ids, pieces, out)
 }
 
-fn main() {
+fn main(rt: HostRuntime) -> io::Result<()> {
     let mut text = [0u8; 1048576];
     let mut head = [0u32; 8];
     let mut calls = [0u32; 24576];
     let mut ids = [0u32; 65536];
     let mut pieces = [0u64; 65536];
-    let mut out = [0u8; 65536];
+    let mut out = Output {
+        bytes: [0u8; 65536],
+        to: rt.stdout(),
+    };
     run_input(
+        &mut rt.stdin(),
         &mut text,
         &mut head,
         &mut calls,
         &mut ids,
         &mut pieces,
         &mut out,
-    );
+    )
 }

@@ -1,6 +1,7 @@
-// Commands as text: words, numbers and bytes read from a line, and answers written into a buffer. Nothing here reads or writes a file.
+// Commands as text: words, numbers and bytes read from a line, and answers written into a buffer. Nothing here opens a file.
 #![tactic(auto)]
 
+pub mod inputs; // a whole input into a buffer
 pub mod classes; // kinds of bytes
 pub mod fields; // the words of a line
 pub mod numbers; // decimal numbers

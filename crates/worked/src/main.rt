@@ -18,7 +18,8 @@ use crate::buffers::{Bytes, Ids, Words};
 use crate::replies::Turn;
 use shell::classes::Class;
 use shell::fields::Field;
-use shell::{classes, fields};
+use shell::{classes, fields, inputs};
+use std::io;
 
 // A step on the store, or on its state and buffers.
 fn store_step(
@@ -241,7 +242,7 @@ fn step(
     }
 }
 
-// The steps of a line. Nothing says that a step has any bytes: the turns are counted down from a number that no run uses up.
+// The steps of a line. Nothing says that a step has any bytes: the turns are counted, up to a number that no run reaches.
 fn steps(
     before: Turn,
     text: &[u8],
@@ -258,12 +259,10 @@ fn steps(
 ) -> Turn {
     let mut turn = before;
     let mut at: usize = 0;
-    let mut turns = u64::MAX;
-    while turns > 0 {
+    for _ in 0..u64::MAX {
         if text.len() <= at {
-            return turn;
+            break;
         }
-        turns -= 1;
         let end = args::find(text, at, b';');
         turn = step(
             turn,
@@ -286,6 +285,7 @@ fn steps(
 
 // A line without a colon is a comment, or empty.
 fn line(
+    rt: &impl Print,
     turn: Turn,
     text: &[u8],
     ids: &mut Ids,
@@ -298,10 +298,10 @@ fn line(
     held: &mut Words,
     runs: &mut Bytes,
     table: &mut Words,
-) -> Turn {
+) -> io::Result<Turn> {
     let colon = classes::span(text, 0, Class::Half);
     if text.len() <= colon {
-        return turn;
+        return Ok(turn);
     }
     let after = steps(
         turn,
@@ -317,11 +317,12 @@ fn line(
         runs,
         table,
     );
-    say::answered(fields::part(text, 0, colon), after, ids, space, out);
-    after
+    say::answered(rt, fields::part(text, 0, colon), after, ids, space, out)?;
+    Ok(after)
 }
 
 fn lines(
+    rt: &impl Print,
     text: &[u8],
     ids: &mut Ids,
     piece: &mut Words,
@@ -333,17 +334,16 @@ fn lines(
     held: &mut Words,
     runs: &mut Bytes,
     table: &mut Words,
-) {
+) -> io::Result<()> {
     let mut turn = replies::beginning();
     let mut at: usize = 0;
-    let mut turns = u64::MAX;
-    while turns > 0 {
+    for _ in 0..u64::MAX {
         if text.len() <= at {
-            return;
+            break;
         }
-        turns -= 1;
         let end = classes::span(text, at, Class::Line);
         turn = line(
+            rt,
             turn,
             fields::part(text, at, end),
             ids,
@@ -356,12 +356,13 @@ fn lines(
             held,
             runs,
             table,
-        );
+        )?;
         at = std::num::wrapping_add_usize(end, 1);
     }
+    Ok(())
 }
 
-fn run(text: &[u8]) {
+fn run(rt: &impl Print, text: &[u8]) -> io::Result<()> {
     let mut ids = [8u32; 16];
     let mut piece = [8u64; 16];
     let mut space = [8u8; 64];
@@ -373,6 +374,7 @@ fn run(text: &[u8]) {
     let mut runs = [9u8; 64];
     let mut table = [9u64; 16];
     lines(
+        rt,
         text,
         &mut ids,
         &mut piece,
@@ -384,11 +386,11 @@ fn run(text: &[u8]) {
         &mut held,
         &mut runs,
         &mut table,
-    );
+    )
 }
 
-fn main() {
-    let mut text = io::large_buffer();
-    let n = io::read_full(0, &mut text);
-    run(fields::part(&text, 0, n));
+fn main(rt: HostRuntime) -> io::Result<()> {
+    let mut text = [0u8; 65536];
+    let n = inputs::read_full(&mut rt.stdin(), &mut text)?;
+    run(&rt, fields::part(&text, 0, n))
 }

@@ -3,27 +3,23 @@ use crate::buffers::{Bytes, Ids, Words};
 use crate::replies::{Reply, Turn};
 use base::Refusal;
 use shell::{fields, lists};
+use std::io;
 
-fn text(t: &[u8]) {
-    io::write_all(1, t);
+fn text(rt: &impl Print, t: &[u8]) -> io::Result<()> {
+    rt.write_all(t)
 }
 
-fn number(n: u64) {
-    io::print_decimal(1, n);
-}
-
-fn named(t: &[u8], n: u64) {
-    text(t);
-    number(n);
+fn named(rt: &impl Print, t: &[u8], n: u64) -> io::Result<()> {
+    text(rt, t)?;
+    rt.print(n)
 }
 
 // What was to stay as it was.
-fn kept(is: bool) {
+fn kept(rt: &impl Print, is: bool) -> io::Result<()> {
     if is {
-        text(b", kept\n");
-        return;
+        return text(rt, b", kept\n");
     }
-    text(b", altered\n");
+    text(rt, b", altered\n")
 }
 
 fn wide(x: u32) -> u64 {
@@ -31,30 +27,27 @@ fn wide(x: u32) -> u64 {
 }
 
 // A blank before each.
-fn ids(xs: &[u32]) {
-    let mut i: usize = 0;
-    while i < xs.len() {
-        named(b" ", wide(xs[i]));
-        i += 1;
+fn ids(rt: &impl Print, xs: &[u32]) -> io::Result<()> {
+    for x in xs {
+        named(rt, b" ", wide(*x))?;
     }
+    Ok(())
 }
 
-fn words(xs: &[u64]) {
-    let mut i: usize = 0;
-    while i < xs.len() {
-        named(b" ", xs[i]);
-        i += 1;
+fn words(rt: &impl Print, xs: &[u64]) -> io::Result<()> {
+    for x in xs {
+        named(rt, b" ", *x)?;
     }
+    Ok(())
 }
 
 // OFFSET:COORDINATE
-fn pairs(xs: &[u64]) {
-    let mut i: usize = 0;
-    while i < xs.len() {
-        named(b" ", runs::words::offset(xs[i]) as u64);
-        named(b":", runs::words::coordinate(xs[i]));
-        i += 1;
+fn pairs(rt: &impl Print, xs: &[u64]) -> io::Result<()> {
+    for x in xs {
+        named(rt, b" ", runs::words::offset(*x) as u64)?;
+        named(rt, b":", runs::words::coordinate(*x))?;
     }
+    Ok(())
 }
 
 fn glyph(d: u8) -> u8 {
@@ -67,102 +60,108 @@ fn glyph(d: u8) -> u8 {
     63
 }
 
-fn byte(b: u8) {
+fn byte(rt: &impl Print, b: u8) -> io::Result<()> {
     let digits = [32, glyph(b / 16), glyph(b % 16)];
-    text(&digits);
+    text(rt, &digits)
 }
 
 // Two digits a byte.
-fn bytes(xs: &[u8]) {
-    let mut i: usize = 0;
-    while i < xs.len() {
-        byte(xs[i]);
-        i += 1;
+fn bytes(rt: &impl Print, xs: &[u8]) -> io::Result<()> {
+    for x in xs {
+        byte(rt, *x)?;
     }
+    Ok(())
 }
 
-fn refused(r: Refusal) {
-    named(b"refused ", base::number_of(r) as u64);
+fn refused(rt: &impl Print, r: Refusal) -> io::Result<()> {
+    named(rt, b"refused ", base::number_of(r) as u64)
 }
 
-fn reply(is: Reply, some: &Ids, space: &Bytes, out: &Words) {
+fn reply(rt: &impl Print, is: Reply, some: &Ids, space: &Bytes, out: &Words) -> io::Result<()> {
     match is {
-        Reply::Nothing => text(b"done\n"),
-        Reply::Fault => text(b"no such step\n"),
+        Reply::Nothing => text(rt, b"done\n"),
+        Reply::Fault => text(rt, b"no such step\n"),
         Reply::Refused { reason, kept: k } => {
-            refused(reason);
-            kept(k);
+            refused(rt, reason)?;
+            kept(rt, k)
         }
         Reply::Done { value, kept: k } => {
-            named(b"ok ", value);
-            kept(k);
+            named(rt, b"ok ", value)?;
+            kept(rt, k)
         }
         Reply::Made { kept: k } => {
-            text(b"ok");
-            kept(k);
+            text(rt, b"ok")?;
+            kept(rt, k)
         }
         Reply::Shown { count, kept: k } => {
-            named(b"ok ", count as u64);
-            text(b":");
-            ids(lists::front(some, count));
-            kept(k);
+            named(rt, b"ok ", count as u64)?;
+            text(rt, b":")?;
+            ids(rt, lists::front(some, count))?;
+            kept(rt, k)
         }
         Reply::Ids {
             items,
             bytes: len,
             kept: k,
         } => {
-            named(b"ok ", items as u64);
-            named(b" of ", len as u64);
-            text(b":");
-            ids(lists::front(some, items));
-            kept(k);
+            named(rt, b"ok ", items as u64)?;
+            named(rt, b" of ", len as u64)?;
+            text(rt, b":")?;
+            ids(rt, lists::front(some, items))?;
+            kept(rt, k)
         }
         Reply::Bytes { len, kept: k } => {
-            named(b"ok ", len as u64);
-            text(b":");
-            bytes(fields::part(space, 0, len));
-            kept(k);
+            named(rt, b"ok ", len as u64)?;
+            text(rt, b":")?;
+            bytes(rt, fields::part(space, 0, len))?;
+            kept(rt, k)
         }
         Reply::Entries { count, kept: k } => {
-            text(b"ok:");
-            words(lists::front_runs(out, count));
-            kept(k);
+            text(rt, b"ok:")?;
+            words(rt, lists::front_runs(out, count))?;
+            kept(rt, k)
         }
         Reply::Runs { count, kept: k } => {
-            named(b"ok ", count as u64);
-            text(b":");
-            pairs(lists::front_runs(out, count));
-            kept(k);
+            named(rt, b"ok ", count as u64)?;
+            text(rt, b":")?;
+            pairs(rt, lists::front_runs(out, count))?;
+            kept(rt, k)
         }
         Reply::Unpacked {
             count,
             bytes: len,
             kept: k,
         } => {
-            named(b"ok ", count as u64);
-            named(b" of ", len as u64);
-            text(b":");
-            pairs(lists::front_runs(out, count));
-            kept(k);
+            named(rt, b"ok ", count as u64)?;
+            named(rt, b" of ", len as u64)?;
+            text(rt, b":")?;
+            pairs(rt, lists::front_runs(out, count))?;
+            kept(rt, k)
         }
         Reply::Appended {
             count,
             vertices,
             kept: k,
         } => {
-            named(b"ok ", count as u64);
-            named(b" of ", vertices as u64);
-            text(b":");
-            pairs(lists::front_runs(out, count));
-            kept(k);
+            named(rt, b"ok ", count as u64)?;
+            named(rt, b" of ", vertices as u64)?;
+            text(rt, b":")?;
+            pairs(rt, lists::front_runs(out, count))?;
+            kept(rt, k)
         }
     }
 }
 
-pub(crate) fn answered(what: &[u8], turn: Turn, some: &Ids, space: &Bytes, out: &Words) {
-    text(what);
-    text(b": ");
+pub(crate) fn answered(
+    rt: &impl Print,
+    what: &[u8],
+    turn: Turn,
+    some: &Ids,
+    space: &Bytes,
+    out: &Words,
+) -> io::Result<()> {
+    text(rt, what)?;
+    text(rt, b": ")?;
     let is = turn.reply;
-    reply(is, some, space, out);
+    reply(rt, is, some, space, out)
 }
