@@ -1,5 +1,5 @@
 -- `roadfinch::views::unitigs` meets its contract.
-use Rattle.std.proofs.Common.{◌-◌, ◌≤◌, rules}
+use Rattle.std.proofs.Common.{◌-◌, ◌≤◌}
 use Rattle.roadfinch.proofs.views.unitigs.Given as goal
 
 abbrev pub invariant-loop-i : goal.invariant-loop-i

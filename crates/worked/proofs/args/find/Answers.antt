@@ -1,4 +1,4 @@
-use Rattle.std.proofs.Common.{◌≡◌, ◌-◌, length, refl, rules}
+use Rattle.std.proofs.Common.{refl}
 use Rattle.worked.proofs.args.find.Goals as goal
 
 pub loop-i-init : goal.loop-i-init

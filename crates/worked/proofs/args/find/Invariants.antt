@@ -1,5 +1,5 @@
 -- `worked::args::find` is safe and ends.
-use Rattle.std.proofs.Common.{◌≡◌, ◌-◌, length, refl, rules}
+use Rattle.std.proofs.Common.{◌≡◌, ◌-◌, length}
 use Rattle.worked.proofs.args.find.Given as goal
 
 abbrev pub invariant-loop-i : goal.invariant-loop-i
