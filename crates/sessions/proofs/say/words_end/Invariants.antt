@@ -1,4 +1,4 @@
-use Rattle.std.proofs.Common.{◌≤◌, length, rules}
+use Rattle.std.proofs.Common.{◌≤◌, length}
 use Rattle.sessions.proofs.say.words_end.Given as goal
 
 abbrev pub invariant-loop-end : goal.invariant-loop-end
