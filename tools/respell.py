@@ -9,7 +9,7 @@ and outputs keep their spelling: only names that a file of specs/ or a lemma fil
 they stand in .antt, .rt and .edit files. In an .edit file and a page of docs/, where port.py turns nothing, what it
 turned elsewhere (camel case to snake case) is turned too. A lemma that would have the name of a function gets '_lem'. A
 new name that falls together with another one stops the run.
---check writes nothing.
+--check writes nothing. docs/PORT.md names the commit in which it was run.
 """
 
 import os
@@ -82,6 +82,8 @@ def main():
     write = "--check" not in sys.argv[1:]
     root = "."
     for p, name in LEMMAS.items():
+        if not os.path.isfile(p):
+            continue
         text = open(p, encoding="utf-8").read()
         new = TOKEN.sub(lambda m: name + "_lem" if m.group(0) == name else m.group(0), text)
         if write:

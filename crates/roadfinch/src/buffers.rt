@@ -3,7 +3,7 @@
 
 use std::io::Stdout;
 
-// What one read takes, or the answers that wait.
+// What one read takes, or as many bytes of answers.
 pub type IoBuffer = [u8; 65536];
 
 // The answers that wait, and where they go.

@@ -14,17 +14,17 @@ use Rattle.runs.specs.Orders.{most_vertices, steady, list_into}
 use Rattle.runs.specs.Reverse.{reverse_runs, reverse_in_place}
 
 module _ (n : ℕ) (ws result out : List ℕ) where
-  pub list-7 : most_vertices < n → ◌≡◌ {A = Answer × List ℕ} (refused 7, out) (list_into n ws result out)
+  pub list_7 : most_vertices < n → ◌≡◌ {A = Answer × List ℕ} (refused 7, out) (list_into n ws result out)
   unfolding list_into
-  list-7 h = sym (when_yes _ _ _ (lt-ltb most_vertices n h))
+  list_7 h = sym (when_yes _ _ _ (lt-ltb most_vertices n h))
 
-  pub list-6 : n ≤ most_vertices → steady n ws ≡ false → ◌≡◌ {A = Answer × List ℕ} (refused 6, out) (list_into n ws result out)
+  pub list_6 : n ≤ most_vertices → steady n ws ≡ false → ◌≡◌ {A = Answer × List ℕ} (refused 6, out) (list_into n ws result out)
   unfolding list_into
-  list-6 h s = sym (when_no _ _ _ (le-ltb most_vertices n h) ∙ when_yes _ _ _ (not_yes _ s))
+  list_6 h s = sym (when_no _ _ _ (le-ltb most_vertices n h) ∙ when_yes _ _ _ (not_yes _ s))
 
-  pub list-3 : n ≤ most_vertices → steady n ws ≡ true → length out < length result → ◌≡◌ {A = Answer × List ℕ} (refused 3, out) (list_into n ws result out)
+  pub list_3 : n ≤ most_vertices → steady n ws ≡ true → length out < length result → ◌≡◌ {A = Answer × List ℕ} (refused 3, out) (list_into n ws result out)
   unfolding list_into
-  list-3 h s l = sym (when_no _ _ _ (le-ltb most_vertices n h) ∙ when_no _ _ _ (not_no _ s) ∙ when_yes _ _ _ (lt-ltb (length out) (length result) l))
+  list_3 h s l = sym (when_no _ _ _ (le-ltb most_vertices n h) ∙ when_no _ _ _ (not_no _ s) ∙ when_yes _ _ _ (lt-ltb (length out) (length result) l))
 
   pub list_done : (k : ℕ) (after : List ℕ) → n ≤ most_vertices → steady n ws ≡ true → k ≡ length result → k ≤ length out → after ≡ over result out → ◌≡◌ {A = Answer × List ℕ} (done (k ∷ []), after) (list_into n ws result out)
   unfolding list_into
@@ -34,14 +34,14 @@ module _ (n : ℕ) (ws result out : List ℕ) where
       ∙ sym (when_no _ _ _ (le-ltb most_vertices n h) ∙ when_no _ _ _ (not_no _ s) ∙ when_no _ _ _ (le-ltb (length out) (length result) z))
 
 module _ (ws : List ℕ) (n : ℕ) where
-  pub place-7 : most_vertices < n → ◌≡◌ {A = Answer × List ℕ} (refused 7, ws) (reverse_in_place ws n)
+  pub place_7 : most_vertices < n → ◌≡◌ {A = Answer × List ℕ} (refused 7, ws) (reverse_in_place ws n)
   unfolding reverse_in_place
-  place-7 h = sym (when_yes _ _ _ (lt-ltb most_vertices n h))
+  place_7 h = sym (when_yes _ _ _ (lt-ltb most_vertices n h))
 
-  pub place-6 : n ≤ most_vertices → steady n ws ≡ false → ◌≡◌ {A = Answer × List ℕ} (refused 6, ws) (reverse_in_place ws n)
+  pub place_6 : n ≤ most_vertices → steady n ws ≡ false → ◌≡◌ {A = Answer × List ℕ} (refused 6, ws) (reverse_in_place ws n)
   unfolding reverse_in_place
-  place-6 h s = sym (when_no _ _ _ (le-ltb most_vertices n h) ∙ when_yes _ _ _ (not_yes _ s))
+  place_6 h s = sym (when_no _ _ _ (le-ltb most_vertices n h) ∙ when_yes _ _ _ (not_yes _ s))
 
-  pub place-done : (after : List ℕ) → n ≤ most_vertices → steady n ws ≡ true → after ≡ reverse_runs n ws → ◌≡◌ {A = Answer × List ℕ} (done (length ws ∷ []), after) (reverse_in_place ws n)
+  pub place_done : (after : List ℕ) → n ≤ most_vertices → steady n ws ≡ true → after ≡ reverse_runs n ws → ◌≡◌ {A = Answer × List ℕ} (done (length ws ∷ []), after) (reverse_in_place ws n)
   unfolding reverse_in_place
-  place-done after h s e = ap (λ (l : List ℕ). (done (length ws ∷ []), l)) e ∙ sym (when_no _ _ _ (le-ltb most_vertices n h) ∙ when_no _ _ _ (not_no _ s))
+  place_done after h s e = ap (λ (l : List ℕ). (done (length ws ∷ []), l)) e ∙ sym (when_no _ _ _ (le-ltb most_vertices n h) ∙ when_no _ _ _ (not_no _ s))

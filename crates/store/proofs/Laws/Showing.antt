@@ -13,7 +13,7 @@ use Rattle.base.specs.Answers as answer
 use Rattle.base.specs.Parts.{over}
 use Rattle.base.specs.Tests.{◌when◌else◌}
 use Rattle.base.specs.declared.Given.{Given}
-use Rattle.base.specs.declared.Given.TheVariants as goal
+use Rattle.base.specs.declared.Given.TheVariants as given
 use Rattle.base.specs.declared.Refusal.{Refusal}
 use Rattle.base.specs.declared.Refusal.TheVariants.{Damaged, Place, Space}
 use Rattle.base.proofs.Bools.{or_none, via}
@@ -137,16 +137,16 @@ pub space_not : (k : ℕ) (r : Refusal) → k ≡ number_of r → (k ≡ 3 → �
 space_not k r e n = sym (damage_is r (λ q. n (e ∙ q)))
 
 read_space : (g : Given) → of_given g ≡ answer.refused 3 → of_answer (of_read g) ≡ answer.refused 3
-read_space (goal.Done items bytes) e = let z : ◌≡◌ {A = ℕ} 0 1 = cc in absurd (omega arith)
-read_space (goal.Refused r) e = let n : number_of r ≡ 3 = cc in ap (λ (x : Refusal). answer.refused (number_of x)) (space_is r n)
+read_space (given.Done items bytes) e = let z : ◌≡◌ {A = ℕ} 0 1 = cc in absurd (omega arith)
+read_space (given.Refused r) e = let n : number_of r ≡ 3 = cc in ap (λ (x : Refusal). answer.refused (number_of x)) (space_is r n)
 
 read_damage : (g : Given) (k : ℕ) → (k ≡ 3 → ⊥) → of_given g ≡ answer.refused k → of_answer (of_read g) ≡ answer.refused 5
-read_damage (goal.Done items bytes) k n e = let z : ◌≡◌ {A = ℕ} 0 1 = cc in absurd (omega arith)
-read_damage (goal.Refused r) k n e = let m : number_of r ≡ k = cc in ap (λ (x : Refusal). answer.refused (number_of x)) (damage_is r (λ q. n (sym m ∙ q)))
+read_damage (given.Done items bytes) k n e = let z : ◌≡◌ {A = ℕ} 0 1 = cc in absurd (omega arith)
+read_damage (given.Refused r) k n e = let m : number_of r ≡ k = cc in ap (λ (x : Refusal). answer.refused (number_of x)) (damage_is r (λ q. n (sym m ∙ q)))
 
 read_done : (g : Given) (k m : ℕ) → of_given g ≡ done (k ∷ m ∷ []) → of_answer (of_read g) ≡ done (k ∷ [])
-read_done (goal.Done items bytes) k m e = let x : items ≡ k = cc in ap (λ (j : ℕ). done (j ∷ [])) x
-read_done (goal.Refused r) k m e = let z : ◌≡◌ {A = ℕ} 0 1 = cc in absurd (omega arith)
+read_done (given.Done items bytes) k m e = let x : items ≡ k = cc in ap (λ (j : ℕ). done (j ∷ [])) x
+read_done (given.Refused r) k m e = let z : ◌≡◌ {A = ℕ} 0 1 = cc in absurd (omega arith)
 
 abbrev pair : Answer → List ℕ → Answer × List ℕ
 pair a l = (a, l)
@@ -167,10 +167,10 @@ shown_by_lem records.damaged g total out' out e =
     let n : ◌≡◌ {A = ℕ} 5 3 → ⊥ = λ z. omega arith in
     ap₂ pair (read_damage g 5 n (ap (λ (x : Answer × List ℕ). x.0) e)) (ap (λ (x : Answer × List ℕ). x.1) e)
 
-pub read_given : (g : Given) (items taken : ℕ) → g ≡ goal.Done items taken → answered.Done items ≡ of_read g
+pub read_given : (g : Given) (items taken : ℕ) → g ≡ given.Done items taken → answered.Done items ≡ of_read g
 read_given g items taken e = rw e
 
-pub read_refused : (g : Given) (r q : Refusal) → g ≡ goal.Refused r → q ≡ damage_or r → answered.Refused q ≡ of_read g
+pub read_refused : (g : Given) (r q : Refusal) → g ≡ given.Refused r → q ≡ damage_or r → answered.Refused q ≡ of_read g
 read_refused g r q e h = rw (e, h)
 
 pub given_set : (g : Given) (a : code.Answer) (N : ℕ) (c : Cell) (file out' out : List ℕ) (at : ℕ) → at ≤ c.records.used → bad_colors N ≡ false → a ≡ of_read g

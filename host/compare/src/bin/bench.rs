@@ -729,6 +729,19 @@ fn processor() -> String {
     })
 }
 
+/// The line of the kit that is on the path, which built the archive.
+fn kit() -> String {
+    let said = std::process::Command::new("rt").arg("version").output();
+    let text = said.map_or(String::new(), |it| {
+        String::from_utf8_lossy(&it.stdout).trim().to_string()
+    });
+    if text.is_empty() {
+        "unknown".into()
+    } else {
+        text
+    }
+}
+
 fn main() {
     let most = MAX_VERTICES;
     println!("one size");
@@ -788,7 +801,7 @@ fn main() {
     let text = format!(
         "# Benchmark
 
-Written by `cargo run --release --bin bench` in `host/`; don't edit it. Processor: {}.
+Written by `cargo run --release --bin bench` in `host/`; don't edit it. Processor: {}. Kit: {}.
 
 Both sides run in one process on the same inputs, in turn: the reference (the Rust functions copied in `host/oracle`) as
 Rust, the proved code through its C functions. Release builds. The shortest of {ROUNDS} rounds counts, each of as many calls
@@ -823,6 +836,7 @@ before it is appended.
 
 {}",
         processor(),
+        kit(),
         ROUND_SECONDS * 1e3,
         one.text(),
         growth.text(),

@@ -41,7 +41,7 @@ fill_chunk-k-requires c =
     (c.bits_at-word.ensures.0 ∙ ap (λ (b : List Bool). value_of (take c.chunk_width-width.result b)) (sym (drop-drop c.loop-base.base c.args.at bits)))
     c.requires.bytes_in_bounds
     c.loop-base.invariant.2 in
-    record { width_bound = search rules; word_in_bounds = omega (arith, (added).fits) }
+    record { width_bound = search rules; word_in_bounds = omega (arith, added.fits) }
 
 pub loop-base-preserved : goal.loop-base-preserved
 loop-base-preserved c =

@@ -10,11 +10,9 @@ use Rattle.codec.proofs.Laws.Low.{length_bits, one_shl}
 use Rattle.codec.proofs.Laws.Windows.{window, window_value}
 use Rattle.codec.proofs.bits.bits_at.Goals as goal
 
--- src/bits.rt:92:5
 pub nonzero_rem-result-2 : goal.nonzero_rem-result-2
 nonzero_rem-result-2 c = rw (one_shl c.args.b (omega arith)) (pow_pos c.args.b)
 
--- src/bits.rt:87:1
 pub returns : goal.returns
 returns c =
     let bits = bits_of c.args.bytes.now in

@@ -6,11 +6,9 @@ use lib.Pow.{pow_mono}
 use Rattle.codec.proofs.Laws.Windows.{Tail, tail_none, tail_more}
 use Rattle.codec.proofs.bits.tail_at.Goals as goal
 
--- src/bits.rt:65:5
 pub loop-i-init : goal.loop-i-init
 loop-i-init c = (omega arith, omega arith, tail_none c.args.bytes.now)
 
--- src/bits.rt:67:17
 pub wide-requires : goal.wide-requires
 wide-requires c = tt
 
@@ -25,15 +23,12 @@ small c = lt_of_lt_of_le (step c).1 (pow_mono {j = 64} (omega arith))
 pub overflow_mul-value : goal.overflow_mul-value
 overflow_mul-value c = omega (arith, small c)
 
--- src/bits.rt:67:17
 pub overflow_add-value : goal.overflow_add-value
 overflow_add-value c = omega (arith, small c)
 
--- src/bits.rt:65:5
 pub loop-i-preserved : goal.loop-i-preserved
 loop-i-preserved c = (omega arith, omega arith, step c)
 
--- src/bits.rt:59:1
 pub returns : goal.returns
 returns c =
     let e : c.loop-i.i ≡ c.args.k = omega arith in

@@ -7,15 +7,12 @@ use Rattle.codec.proofs.Laws.Codes.{high_leading}
 use Rattle.codec.proofs.Laws.Bits.{length_delta, high_lt}
 use Rattle.codec.proofs.codes.delta_len.Goals as goal
 
--- src/codes.rt:258:13
 pub overflow_sub-v : goal.overflow_sub-v
 overflow_sub-v c = (high_leading (c.args.v + 1) (omega arith) (omega arith)).0
 
--- src/codes.rt:258:5
 pub top_len-requires : goal.top_len-requires
 top_len-requires c = omega (arith, (high_leading (c.args.v + 1) (omega arith) (omega arith)).1, high_lt (c.args.v + 1) 21 (omega arith) (omega arith))
 
--- src/codes.rt:254:1
 pub returns : goal.returns
 returns c =
     let v = c.args.v in

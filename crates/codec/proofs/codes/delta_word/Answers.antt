@@ -11,8 +11,8 @@ use Rattle.codec.specs.declared.codes.Split.{Split}
 use Rattle.codec.proofs.Laws.Bits.{delta_low, high_lt, joined_lt, shift_fits}
 use Rattle.codec.proofs.codes.delta_word.Goals as goal
 
-bit-lt : (v : ℕ) (r : Split) → v ≤ 2 ^ 20 → SplitOf (v + 1) r → r.bit < 21
-bit-lt v r most split = rw split.bit (high_lt (v + 1) 21 (omega arith) (omega arith))
+bit_lt : (v : ℕ) (r : Split) → v ≤ 2 ^ 20 → SplitOf (v + 1) r → r.bit < 21
+bit_lt v r most split = rw split.bit (high_lt (v + 1) 21 (omega arith) (omega arith))
 
 module _ (v : ℕ) (r : Split) (count g : ℕ) (most : v ≤ 2 ^ 20) (split : SplitOf (v + 1) r) (long : (count ≡ 2 * high_bit (r.bit + 1) + 1 + r.bit) × (count ≤ 29))
     (head : (low_bits (2 * high_bit (r.bit + 1) + 1) g ≡ gamma r.bit) × (g < 2 ^ (2 * high_bit (r.bit + 1) + 1))) where
@@ -40,20 +40,16 @@ module _ (v : ℕ) (r : Split) (count g : ℕ) (most : v ≤ 2 ^ 20) (split : Sp
     small = rw shl value_lt;
   }
 
--- src/codes.rt:246:9
 pub top_len-count-requires : goal.top_len-count-requires
-top_len-count-requires c = omega (arith, bit-lt c.args.v c.split_top-s.result c.requires c.split_top-s.ensures)
+top_len-count-requires c = omega (arith, bit_lt c.args.v c.split_top-s.result c.requires c.split_top-s.ensures)
 
--- src/codes.rt:248:16
 pub gamma_value-requires : goal.gamma_value-requires
-gamma_value-requires c = omega (arith, bit-lt c.args.v c.split_top-s.result c.requires c.split_top-s.ensures)
+gamma_value-requires c = omega (arith, bit_lt c.args.v c.split_top-s.result c.requires c.split_top-s.ensures)
 
--- src/codes.rt:248:16
 pub overflow_add-result : goal.overflow_add-result
 overflow_add-result c =
     record { fits = sum_fits c.args.v c.split_top-s.result c.top_len-count.result c.gamma_value.result c.requires c.split_top-s.ensures c.top_len-count.ensures c.gamma_value.ensures }
 
--- src/codes.rt:241:1
 pub returns : goal.returns
 returns c =
     (word c.args.v c.split_top-s.result c.top_len-count.result c.gamma_value.result c.requires c.split_top-s.ensures c.top_len-count.ensures c.gamma_value.ensures, c.top_len-count.ensures.1)

@@ -23,4 +23,4 @@ returns c =
     let code : CodedIn (c.args.last / 2 ^ (c.args.at - 8 * (length c.args.bytes.now - 8))) (Code c.in-Code.value c.in-Code.count) = let a = c.args in
     let shown = Code c.in-Code.value c.in-Code.count in
     subst (λ (k : ℕ). CodedIn (a.last / 2 ^ (a.at - 8 * k)) shown) c.last_start.ensures (subst (CodedIn (a.last / 2 ^ (a.at - 8 * c.last_start.result))) c.in-Code.is c.delta_of.ensures) in
-    window_found c.args.bytes.now (length c.args.bytes.now - 8) c.args.at c.args.last c.requires.window _ _ (code) (omega arith) (omega arith) (omega arith)
+    window_found c.args.bytes.now (length c.args.bytes.now - 8) c.args.at c.args.last c.requires.window _ _ code (omega arith) (omega arith) (omega arith)

@@ -21,18 +21,18 @@ returns-then-bytes-at c =
 one_shl : (c : goal.After-low_value-low) → 1 * 2 ^ c.args.b % 2 ^ 64 ≡ 2 ^ c.args.b
 one_shl c = rw one-mul (mod-eq_of_lt (pow-lt {j = 64} (omega arith)))
 
-low-lt : (c : goal.After-low_value-low) → c.low_value-low.result < 2 ^ c.args.b
-low-lt c =
+low_lt : (c : goal.After-low_value-low) → c.low_value-low.result < 2 ^ c.args.b
+low_lt c =
     rw c.low_value-low.ensures (value_take_lt (bits_of c.args.bytes.now) c.args.at c.args.b)
 
 pub overflow_add-result : goal.overflow_add-result
-overflow_add-result c = omega (arith, one_shl c, low-lt c, pow_mono {i = c.args.b} {j = 20} (omega arith))
+overflow_add-result c = omega (arith, one_shl c, low_lt c, pow_mono {i = c.args.b} {j = 20} (omega arith))
 
 pub overflow_sub-result : goal.overflow_sub-result
 overflow_sub-result c = omega (arith, one_shl c, pow_pos c.args.b)
 
 pub overflow_cast-result : goal.overflow_cast-result
-overflow_cast-result c = omega (arith, one_shl c, low-lt c, pow_mono {i = c.args.b} {j = 20} (omega arith))
+overflow_cast-result c = omega (arith, one_shl c, low_lt c, pow_mono {i = c.args.b} {j = 20} (omega arith))
 
 pub returns : goal.returns
 returns c =

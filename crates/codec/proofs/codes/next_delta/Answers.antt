@@ -17,7 +17,6 @@ code c =
 pub overflow_add-result : goal.overflow_add-result
 overflow_add-result c = omega (arith, (code c).1)
 
--- src/codes.rt:131:1
 pub returns : goal.returns
 returns c =
     window_found c.args.bytes.now (c.args.at / 8) c.args.at c.word_at.result (word_window _ c.word_at.result _ c.word_at.ensures) _ _ (code c) (omega arith) (omega (arith, (code c).1)) (omega (arith, (code c).1))

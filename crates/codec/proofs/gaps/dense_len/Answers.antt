@@ -43,14 +43,14 @@ overflow_add-bits c =
     let gave : Gave true c.args.n c.args.ids.now (record { i = c.loop-n.i; from = c.loop-n.from })
     (Id (c.loop-n.from + c.skip_present-k.result) (record { i = c.loop-n.i + c.skip_present-k.result; from = c.loop-n.from + c.skip_present-k.result + 1 })) = let a = c.args in
     gave_absent a.n a.ids.now (record { i = c.loop-n.i; from = c.loop-n.from }) c.skip_present-k.result c.skip_present-k.ensures.0 c.skip_present-k.ensures.1 c.if-n-id.false in
-    omega (arith, c.delta_len-bits.ensures.1, (gave).2)
+    omega (arith, c.delta_len-bits.ensures.1, gave.2)
 
 pub overflow_add-from : goal.overflow_add-from
 overflow_add-from c =
     let gave : Gave true c.args.n c.args.ids.now (record { i = c.loop-n.i; from = c.loop-n.from })
     (Id (c.loop-n.from + c.skip_present-k.result) (record { i = c.loop-n.i + c.skip_present-k.result; from = c.loop-n.from + c.skip_present-k.result + 1 })) = let a = c.args in
     gave_absent a.n a.ids.now (record { i = c.loop-n.i; from = c.loop-n.from }) c.skip_present-k.result c.skip_present-k.ensures.0 c.skip_present-k.ensures.1 c.if-n-id.false in
-    omega (arith, (gave).2)
+    omega (arith, gave.2)
 
 pub overflow_add-i : goal.overflow_add-i
 overflow_add-i c = omega (arith, c.skip_present-k.ensures.0.inside)
@@ -60,7 +60,7 @@ loop-n-smaller c =
     let gave : Gave true c.args.n c.args.ids.now (record { i = c.loop-n.i; from = c.loop-n.from })
     (Id (c.loop-n.from + c.skip_present-k.result) (record { i = c.loop-n.i + c.skip_present-k.result; from = c.loop-n.from + c.skip_present-k.result + 1 })) = let a = c.args in
     gave_absent a.n a.ids.now (record { i = c.loop-n.i; from = c.loop-n.from }) c.skip_present-k.result c.skip_present-k.ensures.0 c.skip_present-k.ensures.1 c.if-n-id.false in
-    omega (arith, (gave).2)
+    omega (arith, gave.2)
 
 pub loop-n-preserved : goal.loop-n-preserved
 loop-n-preserved c =

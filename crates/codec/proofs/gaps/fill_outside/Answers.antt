@@ -24,8 +24,8 @@ record Turn (others : List ℕ) (top from i : ℕ) : Type 0 where
   pub later : Within (get_or others i 0 + 1) top (drop (i + 1) others)
   pub room : get_or others i 0 + length others ≤ top + i
 
-turn-of : (others : List ℕ) (top from i : ℕ) → i < length others → Within from top (drop i others) → Turn others top from i
-turn-of others top from i h w =
+turn_of : (others : List ℕ) (top from i : ℕ) → i < length others → Within from top (drop i others) → Turn others top from i
+turn_of others top from i h w =
     let d = head_within others top i from h w in
     record {
       low = d.0;
@@ -36,17 +36,17 @@ turn-of others top from i h w =
 
 pub fill_numbers-k-requires : goal.fill_numbers-k-requires
 fill_numbers-k-requires c =
-    let turn : Turn c.args.others.now c.args.top c.loop-i.from c.loop-i.i = turn-of _ _ _ _ c.loop-i-test.true c.loop-i.invariant.4 in
+    let turn : Turn c.args.others.now c.args.top c.loop-i.from c.loop-i.i = turn_of _ _ _ _ c.loop-i-test.true c.loop-i.invariant.4 in
     let t = turn in (t.low, omega (arith, t.room, t.low))
 
 pub overflow_add-from : goal.overflow_add-from
 overflow_add-from c =
-    let turn : Turn c.args.others.now c.args.top c.loop-i.from c.loop-i.i = turn-of _ _ _ _ c.loop-i-test.true c.loop-i.invariant.4 in
-    omega (arith, (turn).below)
+    let turn : Turn c.args.others.now c.args.top c.loop-i.from c.loop-i.i = turn_of _ _ _ _ c.loop-i-test.true c.loop-i.invariant.4 in
+    omega (arith, turn.below)
 
 pub loop-i-preserved : goal.loop-i-preserved
 loop-i-preserved c =
-    let turn : Turn c.args.others.now c.args.top c.loop-i.from c.loop-i.i = turn-of _ _ _ _ c.loop-i-test.true c.loop-i.invariant.4 in
+    let turn : Turn c.args.others.now c.args.top c.loop-i.from c.loop-i.i = turn_of _ _ _ _ c.loop-i-test.true c.loop-i.invariant.4 in
     let t = turn in
     let v = c.loop-i.invariant.5 in
     let old : List ℕ = c.args.out.now in

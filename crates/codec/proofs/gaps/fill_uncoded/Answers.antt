@@ -41,7 +41,7 @@ fill_numbers-k-requires c =
     let turn : Turn c.args.n c.loop-i.i c.loop-i.from c.args.top c.in-Value.value
     (drop c.in-Value.next (bits_of c.args.bytes.now)) c.loop-i.invariant.4.1 = let f = subst (ReadCodeAt read_delta c.args.bytes.now c.loop-i.place) c.in-Value.is c.next_delta.ensures in
     left_turn _ _ _ _ _ _ c.loop-i.invariant.4.5 c.loop-i-test.true _ _ f.0 in
-    let room : c.loop-i.from + c.in-Value.value + c.args.n ≤ c.args.top + c.loop-i.i = turn_room _ _ _ _ _ _ _ c.loop-i-test.true (turn) in
+    let room : c.loop-i.from + c.in-Value.value + c.args.n ≤ c.args.top + c.loop-i.i = turn_room _ _ _ _ _ _ _ c.loop-i-test.true turn in
     (omega arith, omega (arith, room))
 
 pub overflow_add-from : goal.overflow_add-from
@@ -49,14 +49,14 @@ overflow_add-from c =
     let turn : Turn c.args.n c.loop-i.i c.loop-i.from c.args.top c.in-Value.value
     (drop c.in-Value.next (bits_of c.args.bytes.now)) c.loop-i.invariant.4.1 = let f = subst (ReadCodeAt read_delta c.args.bytes.now c.loop-i.place) c.in-Value.is c.next_delta.ensures in
     left_turn _ _ _ _ _ _ c.loop-i.invariant.4.5 c.loop-i-test.true _ _ f.0 in
-    omega (arith, (turn).below)
+    omega (arith, turn.below)
 
 pub loop-i-preserved : goal.loop-i-preserved
 loop-i-preserved c =
     let turn : Turn c.args.n c.loop-i.i c.loop-i.from c.args.top c.in-Value.value
     (drop c.in-Value.next (bits_of c.args.bytes.now)) c.loop-i.invariant.4.1 = let f = subst (ReadCodeAt read_delta c.args.bytes.now c.loop-i.place) c.in-Value.is c.next_delta.ensures in
     left_turn _ _ _ _ _ _ c.loop-i.invariant.4.5 c.loop-i-test.true _ _ f.0 in
-    let room : c.loop-i.from + c.in-Value.value + c.args.n ≤ c.args.top + c.loop-i.i = turn_room _ _ _ _ _ _ _ c.loop-i-test.true (turn) in
+    let room : c.loop-i.from + c.in-Value.value + c.args.n ≤ c.args.top + c.loop-i.i = turn_room _ _ _ _ _ _ _ c.loop-i-test.true turn in
     let t = turn in
     let v = c.loop-i.invariant.4 in
     let old : List ℕ = c.args.out.now in

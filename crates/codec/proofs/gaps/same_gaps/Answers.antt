@@ -16,8 +16,8 @@ use Rattle.codec.proofs.Laws.Codes.{delta_only}
 use Rattle.codec.proofs.Laws.Coded.{coding_start, coding_next, coding_end, coding_read}
 use Rattle.codec.proofs.gaps.same_gaps.Goals as goal
 
-got-value : {v w : ℕ} {r s : List Bool} → got v r ≡ got w s → v ≡ w
-got-value {v} {w} {r} {s} e = cc
+got_value : {v w : ℕ} {r s : List Bool} → got v r ≡ got w s → v ≡ w
+got_value {v} {w} {r} {s} e = cc
 
 pub loop-id-init : goal.loop-id-init
 loop-id-init c =
@@ -45,17 +45,17 @@ returns-in_default-next_delta c =
     → drop c.args.at (bits_of c.args.bytes.now)
     ≡ gap_bits 0 (coded_ids c.args.dense c.args.n c.args.ids.now) ++ rest
     → (more : List Bool) × (read_delta (drop c.loop-id.place (bits_of c.args.bytes.now)) ≡ got (c.in-Id.id - c.loop-id.c.from) more) = λ rest e. let a = c.args in
-    coding_read a.dense a.n a.ids.now c.loop-id.c c.loop-id.invariant.0 c.loop-id.invariant.1 c.in-Id.id c.in-Id.next (gave) _ _ rest c.loop-id.invariant.2 e in
+    coding_read a.dense a.n a.ids.now c.loop-id.c c.loop-id.invariant.0 c.loop-id.invariant.1 c.in-Id.id c.in-Id.next gave _ _ rest c.loop-id.invariant.2 e in
     let a = c.args in
     let none_here = subst (ReadCodeAt read_delta a.bytes.now c.loop-id.place) c.in_default-next_delta.is c.next_delta.ensures in
-    λ rest e. let m = reads_on rest e in omega (arith, none_here _ _ m.1, (gave).2)
+    λ rest e. let m = reads_on rest e in omega (arith, none_here _ _ m.1, gave.2)
 
 pub overflow_sub-id : goal.overflow_sub-id
 overflow_sub-id c =
     let gave : Gave c.args.dense c.args.n c.args.ids.now c.loop-id.c
     (Id c.in-Id.id c.in-Id.next) = let a = c.args in
     subst (Gave a.dense a.n a.ids.now c.loop-id.c) c.in-Id.is c.next_coded.ensures in
-    omega (arith, (gave).1)
+    omega (arith, gave.1)
 
 pub returns-then-value-id : goal.returns-then-value-id
 returns-then-value-id c =
@@ -66,18 +66,18 @@ returns-then-value-id c =
     → drop c.args.at (bits_of c.args.bytes.now)
     ≡ gap_bits 0 (coded_ids c.args.dense c.args.n c.args.ids.now) ++ rest
     → (more : List Bool) × (read_delta (drop c.loop-id.place (bits_of c.args.bytes.now)) ≡ got (c.in-Id.id - c.loop-id.c.from) more) = λ rest e. let a = c.args in
-    coding_read a.dense a.n a.ids.now c.loop-id.c c.loop-id.invariant.0 c.loop-id.invariant.1 c.in-Id.id c.in-Id.next (gave) _ _ rest c.loop-id.invariant.2 e in
+    coding_read a.dense a.n a.ids.now c.loop-id.c c.loop-id.invariant.0 c.loop-id.invariant.1 c.in-Id.id c.in-Id.next gave _ _ rest c.loop-id.invariant.2 e in
     let found : ReadCodeAt read_delta c.args.bytes.now c.loop-id.place (Value c.in-Value.value c.in-Value.behind) = subst (ReadCodeAt read_delta c.args.bytes.now c.loop-id.place) c.in-Value.is c.next_delta.ensures in
     λ rest e.
     let m = reads_on rest e in
-    c.if-value-id.true (got-value (sym (found).0 ∙ m.1))
+    c.if-value-id.true (got_value (sym found.0 ∙ m.1))
 
 pub loop-id-smaller : goal.loop-id-smaller
 loop-id-smaller c =
     let gave : Gave c.args.dense c.args.n c.args.ids.now c.loop-id.c
     (Id c.in-Id.id c.in-Id.next) = let a = c.args in
     subst (Gave a.dense a.n a.ids.now c.loop-id.c) c.in-Id.is c.next_coded.ensures in
-    omega (arith, (gave).1, (gave).2, (gave).3)
+    omega (arith, gave.1, gave.2, gave.3)
 
 pub loop-id-preserved : goal.loop-id-preserved
 loop-id-preserved c =
@@ -91,7 +91,7 @@ loop-id-preserved c =
     let behind : ℕ = c.in-Value.behind in
     let bits : List Bool = bits_of a.bytes.now in (
       c.loop-id.invariant.0 ++ delta v,
-      coding_next a.dense a.n a.ids.now c.loop-id.c c.loop-id.invariant.0 c.loop-id.invariant.1 c.in-Id.id c.in-Id.next (gave),
+      coding_next a.dense a.n a.ids.now c.loop-id.c c.loop-id.invariant.0 c.loop-id.invariant.1 c.in-Id.id c.in-Id.next gave,
       c.loop-id.invariant.2 ∙ ap (λ (x : List Bool). c.loop-id.invariant.0 ++ x) (delta_only v _ _ (f.0 ∙ ap (λ (n : ℕ). got n (drop behind bits)) c.if-value-id.false)) ∙ sym (append_assoc c.loop-id.invariant.0 (delta v) (drop behind bits)),
       f.1,
     )

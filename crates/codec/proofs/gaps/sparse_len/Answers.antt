@@ -18,28 +18,28 @@ overflow_sub-id c =
     let gave : Gave false c.args.n c.args.ids.now (record { i = c.loop-i.i; from = c.loop-i.from })
     (Id (get_or c.args.ids.now c.loop-i.i 0) (record { i = c.loop-i.i + 1; from = get_or c.args.ids.now c.loop-i.i 0 + 1 })) = let a = c.args in
     gave_id a.n a.ids.now (record { i = c.loop-i.i; from = c.loop-i.from }) c.loop-i.invariant.1.ahead c.loop-i-test.true in
-    omega (arith, (gave).1)
+    omega (arith, gave.1)
 
 pub delta_len-bits-requires : goal.delta_len-bits-requires
 delta_len-bits-requires c =
     let gave : Gave false c.args.n c.args.ids.now (record { i = c.loop-i.i; from = c.loop-i.from })
     (Id (get_or c.args.ids.now c.loop-i.i 0) (record { i = c.loop-i.i + 1; from = get_or c.args.ids.now c.loop-i.i 0 + 1 })) = let a = c.args in
     gave_id a.n a.ids.now (record { i = c.loop-i.i; from = c.loop-i.from }) c.loop-i.invariant.1.ahead c.loop-i-test.true in
-    omega (arith, (gave).2)
+    omega (arith, gave.2)
 
 pub overflow_add-bits : goal.overflow_add-bits
 overflow_add-bits c =
     let gave : Gave false c.args.n c.args.ids.now (record { i = c.loop-i.i; from = c.loop-i.from })
     (Id (get_or c.args.ids.now c.loop-i.i 0) (record { i = c.loop-i.i + 1; from = get_or c.args.ids.now c.loop-i.i 0 + 1 })) = let a = c.args in
     gave_id a.n a.ids.now (record { i = c.loop-i.i; from = c.loop-i.from }) c.loop-i.invariant.1.ahead c.loop-i-test.true in
-    omega (arith, c.delta_len-bits.ensures.1, (gave).1, (gave).2)
+    omega (arith, c.delta_len-bits.ensures.1, gave.1, gave.2)
 
 pub overflow_add-from : goal.overflow_add-from
 overflow_add-from c =
     let gave : Gave false c.args.n c.args.ids.now (record { i = c.loop-i.i; from = c.loop-i.from })
     (Id (get_or c.args.ids.now c.loop-i.i 0) (record { i = c.loop-i.i + 1; from = get_or c.args.ids.now c.loop-i.i 0 + 1 })) = let a = c.args in
     gave_id a.n a.ids.now (record { i = c.loop-i.i; from = c.loop-i.from }) c.loop-i.invariant.1.ahead c.loop-i-test.true in
-    omega (arith, (gave).2)
+    omega (arith, gave.2)
 
 pub loop-i-preserved : goal.loop-i-preserved
 loop-i-preserved c =

@@ -53,7 +53,7 @@ overflow_add-from c =
     let gave : Gave true c.args.n c.args.ids.now (record { i = c.loop-written.i; from = c.loop-written.from })
     (Id (c.loop-written.from + c.skip_present-k.result) (record { i = c.loop-written.i + c.skip_present-k.result; from = c.loop-written.from + c.skip_present-k.result + 1 })) = let a = c.args in
     gave_absent a.n a.ids.now (record { i = c.loop-written.i; from = c.loop-written.from }) c.skip_present-k.result c.skip_present-k.ensures.0 c.skip_present-k.ensures.1 c.if-n-id.false in
-    omega (arith, (gave).2)
+    omega (arith, gave.2)
 
 pub overflow_add-i : goal.overflow_add-i
 overflow_add-i c = omega (arith, c.skip_present-k.ensures.0.inside)
@@ -63,7 +63,7 @@ loop-written-smaller c =
     let gave : Gave true c.args.n c.args.ids.now (record { i = c.loop-written.i; from = c.loop-written.from })
     (Id (c.loop-written.from + c.skip_present-k.result) (record { i = c.loop-written.i + c.skip_present-k.result; from = c.loop-written.from + c.skip_present-k.result + 1 })) = let a = c.args in
     gave_absent a.n a.ids.now (record { i = c.loop-written.i; from = c.loop-written.from }) c.skip_present-k.result c.skip_present-k.ensures.0 c.skip_present-k.ensures.1 c.if-n-id.false in
-    omega (arith, (gave).2)
+    omega (arith, gave.2)
 
 pub loop-written-preserved : goal.loop-written-preserved
 loop-written-preserved c =

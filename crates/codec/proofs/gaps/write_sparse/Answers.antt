@@ -23,7 +23,7 @@ overflow_sub-id c =
     let gave : Gave false c.args.n c.args.ids.now (record { i = c.loop-i.i; from = c.loop-i.from })
     (Id (get_or c.args.ids.now c.loop-i.i 0) (record { i = c.loop-i.i + 1; from = get_or c.args.ids.now c.loop-i.i 0 + 1 })) = let a = c.args in
     gave_id a.n a.ids.now (record { i = c.loop-i.i; from = c.loop-i.from }) c.loop-i.invariant.1.ahead c.loop-i-test.true in
-    omega (arith, (gave).1)
+    omega (arith, gave.1)
 
 pub write_delta-written-requires : goal.write_delta-written-requires
 write_delta-written-requires c =
@@ -42,7 +42,7 @@ overflow_add-from c =
     let gave : Gave false c.args.n c.args.ids.now (record { i = c.loop-i.i; from = c.loop-i.from })
     (Id (get_or c.args.ids.now c.loop-i.i 0) (record { i = c.loop-i.i + 1; from = get_or c.args.ids.now c.loop-i.i 0 + 1 })) = let a = c.args in
     gave_id a.n a.ids.now (record { i = c.loop-i.i; from = c.loop-i.from }) c.loop-i.invariant.1.ahead c.loop-i-test.true in
-    omega (arith, (gave).2)
+    omega (arith, gave.2)
 
 pub loop-i-preserved : goal.loop-i-preserved
 loop-i-preserved c =
@@ -52,7 +52,7 @@ loop-i-preserved c =
     let a = c.args in
     let v : ℕ = get_or a.ids.now c.loop-i.i 0 - c.loop-i.from in (
       c.loop-i.invariant.0 ++ delta v,
-      coding_next false a.n a.ids.now _ c.loop-i.invariant.0 c.loop-i.invariant.1 _ _ (gave),
+      coding_next false a.n a.ids.now _ c.loop-i.invariant.0 c.loop-i.invariant.1 _ _ gave,
       wrote_then a.out.now c.loop-i.out a.w c.loop-i.written c.loop-i.invariant.0 c.loop-i.invariant.2 c.write_delta-written.new.out c.write_delta-written.result (delta v) c.write_delta-written.ensures,
     )
 

@@ -25,14 +25,14 @@ overflow_sub-bytes c = omega (arith, step_start_lem _ _ c.requires _ _ (said c))
 pub returns-then-bytes-start : goal.returns-then-bytes-start
 returns-then-bytes-start c =
     let said : Says c.args.bytes.now c.args.at (Whole c.in-Whole.value c.in-Whole.len) = part_says c.args.bytes.now c.args.at c.read_varint_len-prefix.ensures c.in-Whole.is in
-    step_cut _ _ c.requires _ _ (said) (omega arith)
+    step_cut _ _ c.requires _ _ said (omega arith)
 
 pub overflow_add-result : goal.overflow_add-result
 overflow_add-result c =
     let said : Says c.args.bytes.now c.args.at (Whole c.in-Whole.value c.in-Whole.len) = part_says c.args.bytes.now c.args.at c.read_varint_len-prefix.ensures c.in-Whole.is in
-    omega (arith, step_start_lem _ _ c.requires _ _ (said))
+    omega (arith, step_start_lem _ _ c.requires _ _ said)
 
 pub returns : goal.returns
 returns c =
     let said : Says c.args.bytes.now c.args.at (Whole c.in-Whole.value c.in-Whole.len) = part_says c.args.bytes.now c.args.at c.read_varint_len-prefix.ensures c.in-Whole.is in
-    step_next _ _ c.requires _ _ (said) (omega arith)
+    step_next _ _ c.requires _ _ said (omega arith)

@@ -15,11 +15,11 @@ returns-then-bytes-at-2 c =
     let said : Says c.args.bytes.now c.args.at (Whole c.wide-size.result 1) = let a = c.args in
     let e = c.wide-size.ensures.0 in
     subst (λ (b : ℕ). Says a.bytes.now a.at (Whole b 1)) (sym e) (says_byte a.bytes.now a.at (omega arith) (omega (arith, e))) in
-    step_cut _ _ c.requires _ _ (said) (omega arith)
+    step_cut _ _ c.requires _ _ said (omega arith)
 
 pub returns : goal.returns
 returns c =
     let said : Says c.args.bytes.now c.args.at (Whole c.wide-size.result 1) = let a = c.args in
     let e = c.wide-size.ensures.0 in
     subst (λ (b : ℕ). Says a.bytes.now a.at (Whole b 1)) (sym e) (says_byte a.bytes.now a.at (omega arith) (omega (arith, e))) in
-    step_next _ _ c.requires _ _ (said) (omega arith)
+    step_next _ _ c.requires _ _ said (omega arith)

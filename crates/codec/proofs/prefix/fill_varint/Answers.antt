@@ -6,7 +6,6 @@ use Rattle.codec.proofs.Laws.Varints.{prefix_1, prefix_2, prefix_3, prefix_4, pr
 use Rattle.base.specs.Parts.{over}
 use Rattle.codec.proofs.prefix.fill_varint.Goals as goal
 
--- src/lib.rt:88:9
 pub bounds-out-0 : goal.bounds-out-0
 bounds-out-0 c =
     let n = c.args.n in
@@ -14,7 +13,6 @@ bounds-out-0 c =
     let h : 1 ≤ length out = omega (arith, long_1 n, c.requires) in
     omega arith
 
--- src/lib.rt:89:9
 pub returns-then-n-lt128 : goal.returns-then-n-lt128
 unfolding over
 returns-then-n-lt128 c =
@@ -23,7 +21,6 @@ returns-then-n-lt128 c =
     let h : 1 ≤ length out = omega (arith, long_1 n, c.requires) in
     rw (prefix_1 n (omega arith)) (groups_put (n ∷ []) out h)
 
--- src/lib.rt:91:5
 pub bounds-out-0-2 : goal.bounds-out-0-2
 bounds-out-0-2 c =
     let n = c.args.n in
@@ -31,7 +28,6 @@ bounds-out-0-2 c =
     let h : 1 ≤ length out = omega (arith, long_1 n, c.requires) in
     omega arith
 
--- src/lib.rt:94:9
 pub bounds-out-1 : goal.bounds-out-1
 bounds-out-1 c =
     let n = c.args.n in
@@ -39,7 +35,6 @@ bounds-out-1 c =
     let h : 2 ≤ length out = omega (arith, long_2 n (omega arith), c.requires) in
     simp length-set (omega arith)
 
--- src/lib.rt:95:9
 pub returns-then-a-lt128 : goal.returns-then-a-lt128
 unfolding over
 returns-then-a-lt128 c =
@@ -48,7 +43,6 @@ returns-then-a-lt128 c =
     let h : 2 ≤ length out = omega (arith, long_2 n (omega arith), c.requires) in
     rw (prefix_2 n (omega arith) (omega arith)) (groups_put ((n % 128 + 128) ∷ n / 128 ∷ []) out h)
 
--- src/lib.rt:97:5
 pub bounds-out-1-2 : goal.bounds-out-1-2
 bounds-out-1-2 c =
     let n = c.args.n in
@@ -56,7 +50,6 @@ bounds-out-1-2 c =
     let h : 2 ≤ length out = omega (arith, long_2 n (omega arith), c.requires) in
     simp length-set (omega arith)
 
--- src/lib.rt:100:9
 pub bounds-out-2 : goal.bounds-out-2
 bounds-out-2 c =
     let n = c.args.n in
@@ -64,7 +57,6 @@ bounds-out-2 c =
     let h : 3 ≤ length out = omega (arith, long_3 n (omega arith) (omega arith), c.requires) in
     simp length-set (omega arith)
 
--- src/lib.rt:101:9
 pub returns-then-b-lt128 : goal.returns-then-b-lt128
 unfolding over
 returns-then-b-lt128 c =
@@ -73,7 +65,6 @@ returns-then-b-lt128 c =
     let h : 3 ≤ length out = omega (arith, long_3 n (omega arith) (omega arith), c.requires) in
     rw (prefix_3 n (omega arith) (omega arith) (omega arith)) (groups_put ((n % 128 + 128) ∷ (n / 128 % 128 + 128) ∷ n / 128 / 128 ∷ []) out h)
 
--- src/lib.rt:103:5
 pub bounds-out-2-2 : goal.bounds-out-2-2
 bounds-out-2-2 c =
     let n = c.args.n in
@@ -81,7 +72,6 @@ bounds-out-2-2 c =
     let h : 3 ≤ length out = omega (arith, long_3 n (omega arith) (omega arith), c.requires) in
     simp length-set (omega arith)
 
--- src/lib.rt:106:9
 pub bounds-out-3 : goal.bounds-out-3
 bounds-out-3 c =
     let n = c.args.n in
@@ -89,7 +79,6 @@ bounds-out-3 c =
     let h : 4 ≤ length out = omega (arith, long_4 n (omega arith) (omega arith) (omega arith), c.requires) in
     simp length-set (omega arith)
 
--- src/lib.rt:107:9
 pub returns-then-c-lt128 : goal.returns-then-c-lt128
 unfolding over
 returns-then-c-lt128 c =
@@ -98,7 +87,6 @@ returns-then-c-lt128 c =
     let h : 4 ≤ length out = omega (arith, long_4 n (omega arith) (omega arith) (omega arith), c.requires) in
     rw (prefix_4 n (omega arith) (omega arith) (omega arith) (omega arith)) (groups_put ((n % 128 + 128) ∷ (n / 128 % 128 + 128) ∷ (n / 128 / 128 % 128 + 128) ∷ n / 128 / 128 / 128 ∷ []) out h)
 
--- src/lib.rt:109:5
 pub bounds-out-3-2 : goal.bounds-out-3-2
 bounds-out-3-2 c =
     let n = c.args.n in
@@ -106,7 +94,6 @@ bounds-out-3-2 c =
     let h : 4 ≤ length out = omega (arith, long_4 n (omega arith) (omega arith) (omega arith), c.requires) in
     simp length-set (omega arith)
 
--- src/lib.rt:110:5
 pub bounds-out-4 : goal.bounds-out-4
 bounds-out-4 c =
     let n = c.args.n in
@@ -114,7 +101,6 @@ bounds-out-4 c =
     let h : 5 ≤ length out = omega (arith, long_5 n (omega arith) (omega arith) (omega arith) (omega arith), c.requires) in
     simp length-set (omega arith)
 
--- src/lib.rt:83:1
 pub returns : goal.returns
 unfolding over
 returns c =

@@ -6,14 +6,12 @@ use Rattle.base.proofs.Tests.{tests}
 use Rattle.codec.specs.Prefix.{prefix_of, write_prefix}
 use Rattle.codec.proofs.prefix.write_varint.Goals as goal
 
--- src/prefix.rt:113:9
 pub returns-then-out-len : goal.returns-then-out-len
 unfolding write_prefix
 returns-then-out-len c =
     let short : length c.args.out.now < length (prefix_of c.args.n) = omega arith in
     search tests
 
--- src/prefix.rt:108:1
 pub returns : goal.returns
 unfolding write_prefix
 returns c =

@@ -4,12 +4,10 @@ use Rattle.base.proofs.Tests.{tests}
 use Rattle.codec.specs.Records.{bad_colors}
 use Rattle.codec.proofs.records.bad_colors.Goals as goal
 
--- src/records.rt:20:9
 pub returns-then-n-eq0 : goal.returns-then-n-eq0
 unfolding bad_colors
 returns-then-n-eq0 c = search (tests, arith)
 
--- src/records.rt:16:1
 pub returns : goal.returns
 unfolding bad_colors
 returns c = search (tests, arith)

@@ -4,7 +4,6 @@ use mathlib.Core.Path.{◌≡◌, sym, ap, ◌∙◌}
 use mathlib.Core.Bool.{true, false}
 use native.Mathlib.Omega.{arith}
 use lib.ListN.{length, take, drop, length-take, length-drop}
-use borrow.Author.Tests.{not-true, not-false}
 use Rattle.base.proofs.Tests.{when_yes, when_no}
 use Rattle.codec.specs.Prefix.{whole, read_prefix, of_prefix}
 use Rattle.codec.specs.Sets.{within, decode_set}
@@ -14,8 +13,6 @@ use Rattle.codec.proofs.Laws.Prefix.{prefix_behind}
 use Rattle.codec.proofs.Laws.Records.{within_ids}
 use Rattle.codec.proofs.Laws.Encoded.{good_colors}
 use Rattle.codec.proofs.Laws.Compared.{gives_none, gives_refused, gives_cut, gives_payload}
-use mathlib.Core.Bool.{Bool}
-use mathlib.Core.Bool.{not}
 use Rattle.codec.proofs.records.is_color_record.Goals as goal
 
 pub returns-then-bad_colors : goal.returns-then-bad_colors
@@ -26,14 +23,14 @@ pub returns-then-not-is_ascending : goal.returns-then-not-is_ascending
 unfolding is_record
 returns-then-not-is_ascending c =
     let a = c.args in
-    sym (when_no _ _ _ (sym c.bad_colors.ensures ∙ c.if-bad_colors.false) ∙ gives_none a.n a.ids.now a.input.now (λ j. (c.type_inv.input j).fits) (sym c.is_ascending.ensures ∙ not-true _ (ap (λ (b : Bool). not b) c.if-not-is_ascending.true)))
+    sym (when_no _ _ _ (sym c.bad_colors.ensures ∙ c.if-bad_colors.false) ∙ gives_none a.n a.ids.now a.input.now (λ j. (c.type_inv.input j).fits) (sym c.is_ascending.ensures ∙ c.if-not-is_ascending.true))
 
 pub returns-in_default : goal.returns-in_default
 unfolding is_record
 returns-in_default c =
     let colors : bad_colors c.args.n ≡ false = sym c.bad_colors.ensures ∙ c.if-bad_colors.false in
     let a = c.args in
-    sym (when_no _ _ _ (colors) ∙ gives_refused a.n a.ids.now a.input.now c.in_default.field-0 (sym (ap of_prefix c.in_default.is) ∙ c.read_varint_len.ensures))
+    sym (when_no _ _ _ colors ∙ gives_refused a.n a.ids.now a.input.now c.in_default.field-0 (sym (ap of_prefix c.in_default.is) ∙ c.read_varint_len.ensures))
 
 -- the payload's length, and the bytes behind its prefix
 prefixed : (c : goal.In-Whole)
@@ -55,24 +52,24 @@ returns-then-input-len c =
     let colors : bad_colors c.args.n ≡ false = sym c.bad_colors.ensures ∙ c.if-bad_colors.false in
     let a = c.args in
     let p = prefixed in
-    sym (when_no _ _ _ (colors) ∙ gives_cut a.n a.ids.now a.input.now c.in-Whole.value (drop c.in-Whole.len a.input.now) p.0 (omega (arith, length-drop c.in-Whole.len a.input.now)))
+    sym (when_no _ _ _ colors ∙ gives_cut a.n a.ids.now a.input.now c.in-Whole.value (drop c.in-Whole.len a.input.now) p.0 (omega (arith, length-drop c.in-Whole.len a.input.now)))
 
 pub slice_bounds-same_set-end : goal.slice_bounds-same_set-end
 slice_bounds-same_set-end c =
     let prefixed : (read_prefix c.args.input.now ≡ whole c.in-Whole.value (drop c.in-Whole.len c.args.input.now))
     × (c.in-Whole.len ≤ length c.args.input.now) × (c.in-Whole.value < 2 ^ 32) = let a = c.args in
     prefix_behind a.input.now c.in-Whole.value c.in-Whole.len (sym (ap of_prefix c.in-Whole.is) ∙ c.read_varint_len.ensures) in
-    omega (arith, (prefixed).1)
+    omega (arith, prefixed.1)
 
 pub same_set-requires : goal.same_set-requires
 same_set-requires c =
-    let ascend : within 0 c.args.n c.args.ids.now ≡ true = sym c.is_ascending.ensures ∙ not-false _ (ap (λ (b : Bool). not b) c.if-not-is_ascending.false) in
+    let ascend : within 0 c.args.n c.args.ids.now ≡ true = sym c.is_ascending.ensures ∙ c.if-not-is_ascending.false in
     let colors : bad_colors c.args.n ≡ false = sym c.bad_colors.ensures ∙ c.if-bad_colors.false in
     let prefixed : (read_prefix c.args.input.now ≡ whole c.in-Whole.value (drop c.in-Whole.len c.args.input.now))
     × (c.in-Whole.len ≤ length c.args.input.now) × (c.in-Whole.value < 2 ^ 32) = let a = c.args in
     prefix_behind a.input.now c.in-Whole.value c.in-Whole.len (sym (ap of_prefix c.in-Whole.is) ∙ c.read_varint_len.ensures) in
     let a = c.args in
-    (within_ids 0 a.n a.ids.now (ascend), (good_colors a.n (colors)).1, simp length-take (omega (arith, (prefixed).2)))
+    (within_ids 0 a.n a.ids.now ascend, (good_colors a.n colors).1, simp length-take (omega (arith, prefixed.2)))
 
 pub returns : goal.returns
 unfolding is_record
@@ -87,4 +84,4 @@ returns c =
     let len = c.in-Whole.len in
     let n : len + v - len ≡ v = omega arith in
     c.same_set.ensures ∙ ap (λ (m : ℕ). gives_set (decode_set a.n (take m (drop len a.input.now))) a.ids.now) n
-    ∙ sym (when_no _ _ _ (colors) ∙ gives_payload a.n a.ids.now a.input.now v (drop len a.input.now) p.0 (omega (arith, length-drop len a.input.now)))
+    ∙ sym (when_no _ _ _ colors ∙ gives_payload a.n a.ids.now a.input.now v (drop len a.input.now) p.0 (omega (arith, length-drop len a.input.now)))

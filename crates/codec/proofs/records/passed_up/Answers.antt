@@ -1,10 +1,8 @@
 -- `codec::passed_up` meets its contract.
 use Rattle.codec.proofs.records.passed_up.Goals as goal
 
--- src/records.rt:69:1
 pub returns-in-Whole : goal.returns-in-Whole
 returns-in-Whole c = cc
 
--- src/records.rt:69:1
 pub returns-in-Refused : goal.returns-in-Refused
 returns-in-Refused c = cc

@@ -28,7 +28,7 @@ pub returns-then-ids-count : goal.returns-then-ids-count
 returns-then-ids-count c =
     let there : c.args.value ≤ length c.args.input.now - c.args.len = omega arith in
     let ids : Found c.args.n (payload_of c.args.len c.args.value c.args.input.now) c.check_set.new.room (Ids c.in-Ids.count c.in-Ids.at) = subst (Found c.args.n (payload_of c.args.len c.args.value c.args.input.now) c.check_set.new.room) c.in-Ids.is c.check_set.ensures in
-    payload_space c.args.n c.args.input.now c.args.value c.args.len c.args.ids.now (omega arith) there _ _ (ids).0 c.if-ids-count.true
+    payload_space c.args.n c.args.input.now c.args.value c.args.len c.args.ids.now (omega arith) there _ _ ids.0 c.if-ids-count.true
 
 pub decode_source_set-requires : goal.decode_source_set-requires
 decode_source_set-requires c =
@@ -39,4 +39,4 @@ pub returns : goal.returns
 returns c =
     let ids : Found c.args.n (payload_of c.args.len c.args.value c.args.input.now) c.check_set.new.room (Ids c.in-Ids.count c.in-Ids.at) = subst (Found c.args.n (payload_of c.args.len c.args.value c.args.input.now) c.check_set.new.room) c.in-Ids.is c.check_set.ensures in
     let there : c.args.value ≤ length c.args.input.now - c.args.len = omega arith in
-    payload_done c.args.n c.args.input.now c.args.value c.args.len c.args.ids.now (omega arith) there _ _ (ids).0 _ c.if-ids-count.false c.decode_source_set.ensures
+    payload_done c.args.n c.args.input.now c.args.value c.args.len c.args.ids.now (omega arith) there _ _ ids.0 _ c.if-ids-count.false c.decode_source_set.ensures

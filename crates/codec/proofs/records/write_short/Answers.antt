@@ -31,7 +31,7 @@ returns c =
     let short : c.encode_source_set-len.result < 128 = omega (arith, c.encode_source_set-len.ensures.0, payload_short c.args.n c.args.ids.now c.requires.1 c.requires.0) in
     let a = c.args in
     let r = c.encode_source_set-len.result in (
-      short_length a.n r a.ids.now c.encode_source_set-len.ensures.0 (short),
+      short_length a.n r a.ids.now c.encode_source_set-len.ensures.0 short,
       omega (arith, short),
-      short_put a.n r a.ids.now c.encode_source_set-len.ensures.0 (short) a.out.now c.encode_source_set-len.new.out (omega arith) c.encode_source_set-len.ensures.1,
+      short_put a.n r a.ids.now c.encode_source_set-len.ensures.0 short a.out.now c.encode_source_set-len.new.out (omega arith) c.encode_source_set-len.ensures.1,
     )

@@ -30,7 +30,7 @@ returns-in_default c =
 pub check_body-requires : goal.check_body-requires
 check_body-requires c =
     let length_at : ReadCodeAt read_delta c.args.payload.now 0 (Value c.in-Value.value c.in-Value.next) = subst (ReadCodeAt read_delta c.args.payload.now 0) c.in-Value.is c.first_delta.ensures in
-    (search rules, (length_at).1, search rules)
+    (search rules, length_at.1, search rules)
 
 pub returns-in_default-check_body : goal.returns-in_default-check_body
 returns-in_default-check_body c =

@@ -40,7 +40,7 @@ finish-requires c =
     (set_bits c.args.n c.args.ids.now) = let a = c.args in
     wrote_then a.out.now c.write_delta-w.new.out fresh c.write_delta-w.result (delta (length a.ids.now)) c.write_delta-w.ensures c.write_body-w.new.out c.write_body-w.result (body_bits (regime a.n (length a.ids.now)) a.n a.ids.now) c.write_body-w.ensures in
     let a = c.args in (
-      ready_after a.out.now c.write_body-w.new.out fresh c.write_body-w.result (set_bits a.n a.ids.now) (written) (length (set_bits a.n a.ids.now)) 0 (ready_front a.n a.ids.now a.out.now c.requires.ids_in_bounds) (omega arith),
+      ready_after a.out.now c.write_body-w.new.out fresh c.write_body-w.result (set_bits a.n a.ids.now) written (length (set_bits a.n a.ids.now)) 0 (ready_front a.n a.ids.now a.out.now c.requires.ids_in_bounds) (omega arith),
       λ i. (c.slice_known-3-1.given i).fits,
     )
 
@@ -51,4 +51,4 @@ returns c =
     (set_bits c.args.n c.args.ids.now) = let a = c.args in
     wrote_then a.out.now c.write_delta-w.new.out fresh c.write_delta-w.result (delta (length a.ids.now)) c.write_delta-w.ensures c.write_body-w.new.out c.write_body-w.result (body_bits (regime a.n (length a.ids.now)) a.n a.ids.now) c.write_body-w.ensures in
     let a = c.args in
-    encoded a.n c.finish.result a.ids.now a.out.now c.write_body-w.new.out c.finish.new.out c.write_body-w.result (written) c.finish.ensures.0 c.finish.ensures.1
+    encoded a.n c.finish.result a.ids.now a.out.now c.write_body-w.new.out c.finish.new.out c.write_body-w.result written c.finish.ensures.0 c.finish.ensures.1

@@ -6,27 +6,24 @@ use lib.ListN.{get_or}
 use Rattle.codec.proofs.Laws.Ascending.{falls_next, falls_end}
 use Rattle.codec.proofs.sets.has_fall.Goals as goal
 
-or-or : (a b c : Bool) → (a || (b || c)) ≡ ((a || b) || c)
-or-or true b c = refl
-or-or false b c = refl
+or_or : (a b c : Bool) → (a || (b || c)) ≡ ((a || b) || c)
+or_or true b c = refl
+or_or false b c = refl
 
 or_none : (a : Bool) → (a || false) ≡ a
 or_none true = refl
 or_none false = refl
 
--- src/sets.rt:25:5
 pub loop-i-init : goal.loop-i-init
 loop-i-init c = (omega arith, omega arith, refl)
 
--- src/sets.rt:25:5
 pub loop-i-preserved : goal.loop-i-preserved
 loop-i-preserved c =
     let ids = c.args.ids.now in
     let i = c.loop-i.i in
     let e : i + 1 - 1 ≡ i = omega arith in
-    (omega arith, omega arith, rw e (c.loop-i.invariant.2 ∙ ap (λ (t : Bool). c.loop-i.found || t) (falls_next ids i c.loop-i.invariant.0 (omega arith)) ∙ or-or c.loop-i.found _ _))
+    (omega arith, omega arith, rw e (c.loop-i.invariant.2 ∙ ap (λ (t : Bool). c.loop-i.found || t) (falls_next ids i c.loop-i.invariant.0 (omega arith)) ∙ or_or c.loop-i.found _ _))
 
--- src/sets.rt:19:1
 pub returns : goal.returns
 returns c =
     let ids = c.args.ids.now in

@@ -13,13 +13,11 @@ use Rattle.codec.proofs.Laws.Low.{length_bits}
 use Rattle.codec.proofs.Laws.Decoding.{padding_test}
 use Rattle.codec.proofs.sets.is_padding.Goals as goal
 
--- src/sets.rt:156:9
 pub returns-then-left-ge8 : goal.returns-then-left-ge8
 returns-then-left-ge8 c =
     let bytes : List ℕ = c.args.payload.now in
     sym (and_left_no _ _ (le-ltb (length (drop c.args.at (bits_of bytes))) 8 (simp length-drop (omega (arith, length_bits bytes)))))
 
--- src/sets.rt:150:1
 pub returns : goal.returns
 returns c =
     let bytes : List ℕ = c.args.payload.now in

@@ -3,14 +3,10 @@ use Prim.Native.Nat.{◌≤◌}
 use mathlib.Core.Path.{◌≡◌, sym, ◌∙◌}
 use mathlib.Core.Bool.{true, false}
 use lib.ListN.{length, take}
-use borrow.Author.Tests.{not-true, not-false}
 use Rattle.base.proofs.Bools.{via}
 use Rattle.runs.specs.Orders.{sharp}
 use Rattle.runs.specs.Append.{bad_counts, joinable}
 use Rattle.runs.proofs.Laws.Append.{append_3, append_7, append_6, append_66, append_goes, admitted}
-use mathlib.Core.Path.{ap}
-use mathlib.Core.Bool.{Bool}
-use mathlib.Core.Bool.{not}
 use Rattle.runs.proofs.append.append_color_runs.Goals as goal
 
 pub returns-then-out-used : goal.returns-then-out-used
@@ -38,7 +34,7 @@ returns-then-not-is_joinable c =
     let r = c.args.reversed in
     let fits : c.args.used ≤ length out = c.if-out-used.false in
     let good : bad_counts a n ≡ false = via c.bad_counts.ensures c.if-bad_counts.false in
-    append_6 out c.args.used a ps n r fits good (sym c.is_joinable.ensures ∙ not-true _ (ap (λ (b : Bool). not b) c.if-not-is_joinable.true))
+    append_6 out c.args.used a ps n r fits good (sym c.is_joinable.ensures ∙ c.if-not-is_joinable.true)
 
 pub returns-then-not-is_sharp : goal.returns-then-not-is_sharp
 returns-then-not-is_sharp c =
@@ -49,8 +45,8 @@ returns-then-not-is_sharp c =
     let r = c.args.reversed in
     let fits : c.args.used ≤ length out = c.if-out-used.false in
     let good : bad_counts a n ≡ false = via c.bad_counts.ensures c.if-bad_counts.false in
-    let may : joinable a (take c.args.used out) ≡ true = sym c.is_joinable.ensures ∙ not-false _ (ap (λ (b : Bool). not b) c.if-not-is_joinable.false) in
-    append_66 out c.args.used a ps n r fits good may (sym c.is_sharp.ensures ∙ not-true _ (ap (λ (b : Bool). not b) c.if-not-is_sharp.true))
+    let may : joinable a (take c.args.used out) ≡ true = sym c.is_joinable.ensures ∙ c.if-not-is_joinable.false in
+    append_66 out c.args.used a ps n r fits good may (sym c.is_sharp.ensures ∙ c.if-not-is_sharp.true)
 
 pub append_admitted-requires : goal.append_admitted-requires
 append_admitted-requires c =
@@ -61,8 +57,8 @@ append_admitted-requires c =
     let r = c.args.reversed in
     let fits : c.args.used ≤ length out = c.if-out-used.false in
     let good : bad_counts a n ≡ false = via c.bad_counts.ensures c.if-bad_counts.false in
-    let may : joinable a (take c.args.used out) ≡ true = sym c.is_joinable.ensures ∙ not-false _ (ap (λ (b : Bool). not b) c.if-not-is_joinable.false) in
-    let sh : sharp n ps ≡ true = sym c.is_sharp.ensures ∙ not-false _ (ap (λ (b : Bool). not b) c.if-not-is_sharp.false) in
+    let may : joinable a (take c.args.used out) ≡ true = sym c.is_joinable.ensures ∙ c.if-not-is_joinable.false in
+    let sh : sharp n ps ≡ true = sym c.is_sharp.ensures ∙ c.if-not-is_sharp.false in
     admitted out c.args.used a ps n r fits good may sh
 
 pub returns : goal.returns
@@ -74,6 +70,6 @@ returns c =
     let r = c.args.reversed in
     let fits : c.args.used ≤ length out = c.if-out-used.false in
     let good : bad_counts a n ≡ false = via c.bad_counts.ensures c.if-bad_counts.false in
-    let may : joinable a (take c.args.used out) ≡ true = sym c.is_joinable.ensures ∙ not-false _ (ap (λ (b : Bool). not b) c.if-not-is_joinable.false) in
-    let sh : sharp n ps ≡ true = sym c.is_sharp.ensures ∙ not-false _ (ap (λ (b : Bool). not b) c.if-not-is_sharp.false) in
+    let may : joinable a (take c.args.used out) ≡ true = sym c.is_joinable.ensures ∙ c.if-not-is_joinable.false in
+    let sh : sharp n ps ≡ true = sym c.is_sharp.ensures ∙ c.if-not-is_sharp.false in
     c.append_admitted.ensures ∙ append_goes out c.args.used a ps n r fits good may sh

@@ -4,14 +4,11 @@ use mathlib.Core.Path.{sym, ap, ◌∙◌}
 use mathlib.Core.List.{[], ◌∷◌}
 use native.Mathlib.Omega.{arith}
 use lib.ListN.{drop, length-drop}
-use borrow.Author.Tests.{not-true, not-false}
 use Rattle.base.specs.Answers.{done}
 use Rattle.base.proofs.Bools.{not_no, not_yes}
 use Rattle.base.proofs.Tests.{when_yes, when_no}
 use Rattle.runs.specs.Bytes.{sharp_colour_in}
 use Rattle.runs.proofs.Laws.Bytes.{after_short, after_found}
-use mathlib.Core.Bool.{Bool}
-use mathlib.Core.Bool.{not}
 use Rattle.runs.proofs.bytes.sharp_color_after.Goals as goal
 
 pub returns-then-bytes-len : goal.returns-then-bytes-len
@@ -25,7 +22,7 @@ unfolding sharp_colour_in
 returns-then-not-sharp_words c =
     let bs = c.args.bytes.now in
     let f = after_found c.args.count (drop c.args.len bs) (omega (arith, c.if-bytes-len.false, length-drop c.args.len bs)) in
-    sym (ap (sharp_colour_in c.args.n c.args.vertex) f ∙ when_yes _ _ _ (not_yes _ (sym c.sharp_words.ensures ∙ not-true _ (ap (λ (b : Bool). not b) c.if-not-sharp_words.true))))
+    sym (ap (sharp_colour_in c.args.n c.args.vertex) f ∙ when_yes _ _ _ (not_yes _ (sym c.sharp_words.ensures ∙ c.if-not-sharp_words.true)))
 
 pub returns : goal.returns
 unfolding sharp_colour_in
@@ -33,4 +30,4 @@ returns c =
     let bs = c.args.bytes.now in
     let f = after_found c.args.count (drop c.args.len bs) (omega (arith, c.if-bytes-len.false, length-drop c.args.len bs)) in
     ap (λ (x : ℕ). done (x ∷ [])) c.find_color.ensures
-    ∙ sym (ap (sharp_colour_in c.args.n c.args.vertex) f ∙ when_no _ _ _ (not_no _ (sym c.sharp_words.ensures ∙ not-false _ (ap (λ (b : Bool). not b) c.if-not-sharp_words.false))))
+    ∙ sym (ap (sharp_colour_in c.args.n c.args.vertex) f ∙ when_no _ _ _ (not_no _ (sym c.sharp_words.ensures ∙ c.if-not-sharp_words.false)))

@@ -2,11 +2,8 @@
 use Prim.Native.Nat.{ℕ}
 use mathlib.Core.Path.{sym, ap, ◌∙◌}
 use lib.Dec.{leb}
-use borrow.Author.Tests.{not-true, not-false}
 use Rattle.runs.proofs.Laws.Orders.{steady_none, steady_bad}
 use Rattle.runs.proofs.Laws.Falls.{steady_falls, steady_last}
-use mathlib.Core.Bool.{Bool}
-use mathlib.Core.Bool.{not}
 use Rattle.runs.proofs.orders.is_steady.Goals as goal
 
 pub returns-then-runs-eq0 : goal.returns-then-runs-eq0
@@ -17,9 +14,9 @@ returns-then-offset-ne0 c = sym (steady_bad c.args.n c.args.runs.now c.if-runs-e
 
 pub returns-then-not-is_rising : goal.returns-then-not-is_rising
 returns-then-not-is_rising c =
-    sym (steady_falls c.args.n c.args.runs.now c.if-runs-eq0.false (sym c.offset.ensures ∙ c.if-offset-ne0.false) (sym c.is_rising.ensures ∙ not-true _ (ap (λ (b : Bool). not b) c.if-not-is_rising.true)))
+    sym (steady_falls c.args.n c.args.runs.now c.if-runs-eq0.false (sym c.offset.ensures ∙ c.if-offset-ne0.false) (sym c.is_rising.ensures ∙ c.if-not-is_rising.true))
 
 pub returns : goal.returns
 returns c =
     let n = c.args.n in
-    ap (λ (x : ℕ). leb x n) c.offset-2.ensures ∙ sym (steady_last n c.args.runs.now c.if-runs-eq0.false (sym c.offset.ensures ∙ c.if-offset-ne0.false) (sym c.is_rising.ensures ∙ not-false _ (ap (λ (b : Bool). not b) c.if-not-is_rising.false)))
+    ap (λ (x : ℕ). leb x n) c.offset-2.ensures ∙ sym (steady_last n c.args.runs.now c.if-runs-eq0.false (sym c.offset.ensures ∙ c.if-offset-ne0.false) (sym c.is_rising.ensures ∙ c.if-not-is_rising.false))
