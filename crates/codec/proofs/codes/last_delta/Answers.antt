@@ -13,7 +13,7 @@ code : (c : goal.In-Code) → CodedIn (c.args.last / 2 ^ (c.args.at - 8 * (lengt
 code c =
     let a = c.args in
     let shown = Code c.in-Code.value c.in-Code.count in
-    subst (λ (k : ℕ). CodedIn (a.last / 2 ^ (a.at - 8 * k)) shown) c.last_start.ensures (subst (CodedIn (a.last / 2 ^ (a.at - 8 * c.last_start.result))) c.in-Code.is c.delta_of.ensures)
+    subst (λ (k : ℕ). CodedIn (a.last / 2 ^ (a.at - 8 * k)) shown) c.last_start.ensures c.in-Code.ensures
 
 pub overflow_add-at : goal.overflow_add-at
 overflow_add-at c = omega (arith, (code c).1)
@@ -22,5 +22,5 @@ pub returns : goal.returns
 returns c =
     let code : CodedIn (c.args.last / 2 ^ (c.args.at - 8 * (length c.args.bytes.now - 8))) (Code c.in-Code.value c.in-Code.count) = let a = c.args in
     let shown = Code c.in-Code.value c.in-Code.count in
-    subst (λ (k : ℕ). CodedIn (a.last / 2 ^ (a.at - 8 * k)) shown) c.last_start.ensures (subst (CodedIn (a.last / 2 ^ (a.at - 8 * c.last_start.result))) c.in-Code.is c.delta_of.ensures) in
+    subst (λ (k : ℕ). CodedIn (a.last / 2 ^ (a.at - 8 * k)) shown) c.last_start.ensures c.in-Code.ensures in
     window_found c.args.bytes.now (length c.args.bytes.now - 8) c.args.at c.args.last c.requires.window _ _ code (omega arith) (omega arith) (omega arith)

@@ -12,7 +12,7 @@ code : (c : goal.In-Code) → CodedIn (c.word_at.result / 2 ^ (c.args.at - 8 * (
 code c =
     let at : ℕ = c.args.at in
     let p : at % 8 ≡ at - 8 * (at / 8) = omega arith in
-    subst (λ (i : ℕ). CodedIn (c.word_at.result / 2 ^ i) (Code c.in-Code.value c.in-Code.count)) p (subst (CodedIn (c.word_at.result / 2 ^ (at % 8))) c.in-Code.is c.delta_of.ensures)
+    subst (λ (i : ℕ). CodedIn (c.word_at.result / 2 ^ i) (Code c.in-Code.value c.in-Code.count)) p c.in-Code.ensures
 
 pub overflow_add-result : goal.overflow_add-result
 overflow_add-result c = omega (arith, (code c).1)

@@ -40,16 +40,12 @@ delta_len-bits-requires c = omega (arith, (gave c).2)
 
 pub overflow_add-bits : goal.overflow_add-bits
 overflow_add-bits c =
-    let gave : Gave true c.args.n c.args.ids.now (record { i = c.loop-n.i; from = c.loop-n.from })
-    (Id (c.loop-n.from + c.skip_present-k.result) (record { i = c.loop-n.i + c.skip_present-k.result; from = c.loop-n.from + c.skip_present-k.result + 1 })) = let a = c.args in
-    gave_absent a.n a.ids.now (record { i = c.loop-n.i; from = c.loop-n.from }) c.skip_present-k.result c.skip_present-k.ensures.0 c.skip_present-k.ensures.1 c.if-n-id.false in
+    let gave = gave_absent c.args.n c.args.ids.now (record { i = c.loop-n.i; from = c.loop-n.from }) c.skip_present-k.result c.skip_present-k.ensures.0 c.skip_present-k.ensures.1 c.if-n-id.false in
     omega (arith, c.delta_len-bits.ensures.1, gave.2)
 
 pub overflow_add-from : goal.overflow_add-from
 overflow_add-from c =
-    let gave : Gave true c.args.n c.args.ids.now (record { i = c.loop-n.i; from = c.loop-n.from })
-    (Id (c.loop-n.from + c.skip_present-k.result) (record { i = c.loop-n.i + c.skip_present-k.result; from = c.loop-n.from + c.skip_present-k.result + 1 })) = let a = c.args in
-    gave_absent a.n a.ids.now (record { i = c.loop-n.i; from = c.loop-n.from }) c.skip_present-k.result c.skip_present-k.ensures.0 c.skip_present-k.ensures.1 c.if-n-id.false in
+    let gave = gave_absent c.args.n c.args.ids.now (record { i = c.loop-n.i; from = c.loop-n.from }) c.skip_present-k.result c.skip_present-k.ensures.0 c.skip_present-k.ensures.1 c.if-n-id.false in
     omega (arith, gave.2)
 
 pub overflow_add-i : goal.overflow_add-i
@@ -57,21 +53,16 @@ overflow_add-i c = omega (arith, c.skip_present-k.ensures.0.inside)
 
 pub loop-n-smaller : goal.loop-n-smaller
 loop-n-smaller c =
-    let gave : Gave true c.args.n c.args.ids.now (record { i = c.loop-n.i; from = c.loop-n.from })
-    (Id (c.loop-n.from + c.skip_present-k.result) (record { i = c.loop-n.i + c.skip_present-k.result; from = c.loop-n.from + c.skip_present-k.result + 1 })) = let a = c.args in
-    gave_absent a.n a.ids.now (record { i = c.loop-n.i; from = c.loop-n.from }) c.skip_present-k.result c.skip_present-k.ensures.0 c.skip_present-k.ensures.1 c.if-n-id.false in
+    let gave = gave_absent c.args.n c.args.ids.now (record { i = c.loop-n.i; from = c.loop-n.from }) c.skip_present-k.result c.skip_present-k.ensures.0 c.skip_present-k.ensures.1 c.if-n-id.false in
     omega (arith, gave.2)
 
 pub loop-n-preserved : goal.loop-n-preserved
 loop-n-preserved c =
-    let gave : Gave true c.args.n c.args.ids.now (record { i = c.loop-n.i; from = c.loop-n.from })
-    (Id (c.loop-n.from + c.skip_present-k.result) (record { i = c.loop-n.i + c.skip_present-k.result; from = c.loop-n.from + c.skip_present-k.result + 1 })) = let a = c.args in
-    gave_absent a.n a.ids.now (record { i = c.loop-n.i; from = c.loop-n.from }) c.skip_present-k.result c.skip_present-k.ensures.0 c.skip_present-k.ensures.1 c.if-n-id.false in
-    let g = gave in
+    let gave = gave_absent c.args.n c.args.ids.now (record { i = c.loop-n.i; from = c.loop-n.from }) c.skip_present-k.result c.skip_present-k.ensures.0 c.skip_present-k.ensures.1 c.if-n-id.false in
     let a = c.args in
     let v : ℕ = c.loop-n.from + c.skip_present-k.result - c.loop-n.from in (
       c.loop-n.invariant.0 ++ delta v,
-      coding_next true a.n a.ids.now _ c.loop-n.invariant.0 c.loop-n.invariant.1 _ _ g,
+      coding_next true a.n a.ids.now _ c.loop-n.invariant.0 c.loop-n.invariant.1 _ _ gave,
       omega (arith, length-append c.loop-n.invariant.0 (delta v), c.delta_len-bits.ensures.0, c.loop-n.invariant.2),
       omega (arith, c.delta_len-bits.ensures.1, c.loop-n.invariant.3),
     )

@@ -1,13 +1,11 @@
 use Prim.Native.Nat.{ℕ, ◌≤◌, ◌-◌, ◌+◌}
-use mathlib.Core.Path.{◌≡◌, refl, sym, ap, ◌∙◌, subst}
+use mathlib.Core.Path.{◌≡◌, refl, sym, ap, ◌∙◌}
 use mathlib.Core.List.{List, [], ◌++◌, append_assoc}
 use native.Mathlib.Omega.{arith}
 use borrow.Author.Rules.{rules}
 use lib.ListN.{length, drop}
 use Rattle.base.specs.Parts.{over}
 use Rattle.codec.specs.Bits.{bits_of}
-use Rattle.codec.specs.Codes.{read_delta}
-use Rattle.codec.specs.Inside.Places.{ReadCodeAt}
 use Rattle.codec.specs.Sets.{absent, ReadIds}
 use Rattle.codec.specs.Inside.Gaps.{absent_from, numbers, ids_in}
 use Rattle.codec.proofs.Laws.Filled.{over_none, over_more, long_more, same_more}
@@ -24,14 +22,13 @@ next_delta-requires c = record { bytes_len_bound = search rules; window = c.last
 
 pub returns-in_default : goal.returns-in_default
 returns-in_default c =
-    left_there _ _ _ _ _ _ c.loop-i.invariant.4.5 c.loop-i-test.true c.requires.bytes_len_bound.1 (subst (ReadCodeAt read_delta c.args.bytes.now c.loop-i.place) c.in_default.is c.next_delta.ensures)
+    left_there _ _ _ _ _ _ c.loop-i.invariant.4.5 c.loop-i-test.true c.requires.bytes_len_bound.1 c.in_default.ensures
 
 turn : (c : goal.In-Value)
     → Turn c.args.n c.loop-i.i c.loop-i.from c.args.top c.in-Value.value
     (drop c.in-Value.next (bits_of c.args.bytes.now)) c.loop-i.invariant.4.1
 turn c =
-    let f = subst (ReadCodeAt read_delta c.args.bytes.now c.loop-i.place) c.in-Value.is c.next_delta.ensures in
-    left_turn _ _ _ _ _ _ c.loop-i.invariant.4.5 c.loop-i-test.true _ _ f.0
+    left_turn _ _ _ _ _ _ c.loop-i.invariant.4.5 c.loop-i-test.true _ _ c.in-Value.ensures.0
 
 pub overflow_add-id : goal.overflow_add-id
 overflow_add-id c = omega (arith, (turn c).below)
@@ -39,23 +36,20 @@ overflow_add-id c = omega (arith, (turn c).below)
 pub fill_numbers-k-requires : goal.fill_numbers-k-requires
 fill_numbers-k-requires c =
     let turn : Turn c.args.n c.loop-i.i c.loop-i.from c.args.top c.in-Value.value
-    (drop c.in-Value.next (bits_of c.args.bytes.now)) c.loop-i.invariant.4.1 = let f = subst (ReadCodeAt read_delta c.args.bytes.now c.loop-i.place) c.in-Value.is c.next_delta.ensures in
-    left_turn _ _ _ _ _ _ c.loop-i.invariant.4.5 c.loop-i-test.true _ _ f.0 in
+    (drop c.in-Value.next (bits_of c.args.bytes.now)) c.loop-i.invariant.4.1 = left_turn _ _ _ _ _ _ c.loop-i.invariant.4.5 c.loop-i-test.true _ _ c.in-Value.ensures.0 in
     let room : c.loop-i.from + c.in-Value.value + c.args.n ≤ c.args.top + c.loop-i.i = turn_room _ _ _ _ _ _ _ c.loop-i-test.true turn in
     (omega arith, omega (arith, room))
 
 pub overflow_add-from : goal.overflow_add-from
 overflow_add-from c =
     let turn : Turn c.args.n c.loop-i.i c.loop-i.from c.args.top c.in-Value.value
-    (drop c.in-Value.next (bits_of c.args.bytes.now)) c.loop-i.invariant.4.1 = let f = subst (ReadCodeAt read_delta c.args.bytes.now c.loop-i.place) c.in-Value.is c.next_delta.ensures in
-    left_turn _ _ _ _ _ _ c.loop-i.invariant.4.5 c.loop-i-test.true _ _ f.0 in
+    (drop c.in-Value.next (bits_of c.args.bytes.now)) c.loop-i.invariant.4.1 = left_turn _ _ _ _ _ _ c.loop-i.invariant.4.5 c.loop-i-test.true _ _ c.in-Value.ensures.0 in
     omega (arith, turn.below)
 
 pub loop-i-preserved : goal.loop-i-preserved
 loop-i-preserved c =
     let turn : Turn c.args.n c.loop-i.i c.loop-i.from c.args.top c.in-Value.value
-    (drop c.in-Value.next (bits_of c.args.bytes.now)) c.loop-i.invariant.4.1 = let f = subst (ReadCodeAt read_delta c.args.bytes.now c.loop-i.place) c.in-Value.is c.next_delta.ensures in
-    left_turn _ _ _ _ _ _ c.loop-i.invariant.4.5 c.loop-i-test.true _ _ f.0 in
+    (drop c.in-Value.next (bits_of c.args.bytes.now)) c.loop-i.invariant.4.1 = left_turn _ _ _ _ _ _ c.loop-i.invariant.4.5 c.loop-i-test.true _ _ c.in-Value.ensures.0 in
     let room : c.loop-i.from + c.in-Value.value + c.args.n ≤ c.args.top + c.loop-i.i = turn_room _ _ _ _ _ _ _ c.loop-i-test.true turn in
     let t = turn in
     let v = c.loop-i.invariant.4 in

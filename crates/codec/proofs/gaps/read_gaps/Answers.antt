@@ -1,15 +1,12 @@
 use Prim.Native.Nat.{ℕ, ◌-◌, ◌<◌, ◌+◌}
-use mathlib.Core.Path.{◌≡◌, refl, ap, ◌∙◌, subst}
+use mathlib.Core.Path.{◌≡◌, refl, ap, ◌∙◌}
 use mathlib.Core.List.{List, [], ◌∷◌, ◌++◌}
 use native.Mathlib.Omega.{arith}
 use borrow.Author.Rules.{rules}
 use lib.ListN.{length, drop, set, length-set, length-append}
 use Rattle.codec.specs.Bits.{bits_of}
-use Rattle.codec.specs.Codes.{read_delta}
-use Rattle.codec.specs.Inside.Places.{ReadCodeAt}
 use Rattle.codec.specs.Sets.{read_gaps}
 use Rattle.codec.specs.Inside.Gaps.{with_ids}
-use Rattle.codec.specs.declared.codes.ReadCode.TheVariants.{Value}
 use Rattle.codec.proofs.Laws.Filled.{put_none, put_set_lem}
 use Rattle.codec.proofs.Laws.Gaps.{after_nil, ahead, stuck, arrived, gaps_high, gaps_refused, put_refused, put_given}
 use Rattle.codec.proofs.gaps.read_gaps.Goals as goal
@@ -26,33 +23,28 @@ next_delta-requires c = record { bytes_len_bound = search rules; window = c.last
 
 pub returns-in_default : goal.returns-in_default
 returns-in_default c =
-    let none_here = subst (ReadCodeAt read_delta c.args.bytes.now c.loop-i.place) c.in_default.is c.next_delta.ensures in
-    let e = stuck _ c.loop-i.invariant.4.0 c.args.n c.loop-i.i c.loop-i.from c.args.top _ c.loop-i-test.true c.loop-i.invariant.4.3 (gaps_refused _ _ _ _ none_here c.requires.top_bound) in
+    let e = stuck _ c.loop-i.invariant.4.0 c.args.n c.loop-i.i c.loop-i.from c.args.top _ c.loop-i-test.true c.loop-i.invariant.4.3 (gaps_refused _ _ _ _ c.in_default.ensures c.requires.top_bound) in
     (e, put_refused _ _ _ e)
 
 pub returns-then-top-from : goal.returns-then-top-from
 returns-then-top-from c =
-    let found : ReadCodeAt read_delta c.args.bytes.now c.loop-i.place (Value c.in-Value.value c.in-Value.next) = subst (ReadCodeAt read_delta c.args.bytes.now c.loop-i.place) c.in-Value.is c.next_delta.ensures in
-    let f = found in
-    let e = stuck _ c.loop-i.invariant.4.0 c.args.n c.loop-i.i c.loop-i.from c.args.top _ c.loop-i-test.true c.loop-i.invariant.4.3 (gaps_high _ _ _ _ _ _ f.0 (omega arith)) in
+    let e = stuck _ c.loop-i.invariant.4.0 c.args.n c.loop-i.i c.loop-i.from c.args.top _ c.loop-i-test.true c.loop-i.invariant.4.3 (gaps_high _ _ _ _ _ _ c.in-Value.ensures.0 (omega arith)) in
     (e, put_refused _ _ _ e)
 
 pub loop-i-preserved : goal.loop-i-preserved
 loop-i-preserved c =
-    let found : ReadCodeAt read_delta c.args.bytes.now c.loop-i.place (Value c.in-Value.value c.in-Value.next) = subst (ReadCodeAt read_delta c.args.bytes.now c.loop-i.place) c.in-Value.is c.next_delta.ensures in
     let v = c.loop-i.invariant.4 in
-    let f = found in
     let id : ℕ = c.loop-i.from + c.in-Value.value in
     let h : id < c.args.top = omega arith in (
       omega arith,
       omega arith,
-      f.1,
+      c.in-Value.ensures.1,
       ap length c.put_id.ensures ∙ length-set c.loop-i.room c.loop-i.i id ∙ c.loop-i.invariant.3,
       (
         v.0 ++ (id ∷ []),
         length-append v.0 (id ∷ []) ∙ ap (λ (m : ℕ). m + 1) v.1,
         c.put_id.ensures ∙ ap (λ (o : List ℕ). set o c.loop-i.i id) v.2 ∙ put_set_lem v.0 c.args.room.now c.loop-i.i id v.1,
-        ahead _ v.0 c.args.n c.loop-i.i c.loop-i.from c.args.top _ c.loop-i-test.true v.3 c.in-Value.value _ f.0 h,
+        ahead _ v.0 c.args.n c.loop-i.i c.loop-i.from c.args.top _ c.loop-i-test.true v.3 c.in-Value.value _ c.in-Value.ensures.0 h,
       ),
     )
 

@@ -6,11 +6,10 @@ use native.Mathlib.Omega.{arith}
 use lib.ListN.{length}
 use Rattle.codec.specs.Codes.{delta}
 use Rattle.codec.specs.Sets.{gap_bits}
-use Rattle.codec.specs.Inside.Gaps.{coded_ids, Gave}
+use Rattle.codec.specs.Inside.Gaps.{coded_ids}
 use Rattle.codec.specs.Inside.Writers.{Wrote}
 use Rattle.codec.proofs.Laws.Coded.{coding_start, coding_next, coding_end, coding_room, gave_absent, gave_no_absent}
 use Rattle.codec.proofs.Laws.Writers.{wrote_none, wrote_then, ready_after}
-use Rattle.codec.specs.declared.gaps.NextId.TheVariants.{Id}
 use Rattle.codec.proofs.gaps.write_dense.Goals as goal
 
 pub loop-written-init : goal.loop-written-init
@@ -38,21 +37,16 @@ returns-then-n-id c =
 
 pub write_delta-written-requires : goal.write_delta-written-requires
 write_delta-written-requires c =
-    let gave : Gave true c.args.n c.args.ids.now (record { i = c.loop-written.i; from = c.loop-written.from })
-    (Id (c.loop-written.from + c.skip_present-k.result) (record { i = c.loop-written.i + c.skip_present-k.result; from = c.loop-written.from + c.skip_present-k.result + 1 })) = let a = c.args in
-    gave_absent a.n a.ids.now (record { i = c.loop-written.i; from = c.loop-written.from }) c.skip_present-k.result c.skip_present-k.ensures.0 c.skip_present-k.ensures.1 c.if-n-id.false in
-    let g = gave in
+    let gave = gave_absent c.args.n c.args.ids.now (record { i = c.loop-written.i; from = c.loop-written.from }) c.skip_present-k.result c.skip_present-k.ensures.0 c.skip_present-k.ensures.1 c.if-n-id.false in
     let a = c.args in (
-      omega (arith, g.2),
+      omega (arith, gave.2),
       ready_after a.out.now c.loop-written.out a.w c.loop-written.written c.loop-written.invariant.0 c.loop-written.invariant.2 (length (gap_bits 0 (coded_ids true a.n a.ids.now))) _ c.requires.ready
-          (coding_room true a.n a.ids.now _ c.loop-written.invariant.0 c.loop-written.invariant.1 _ _ g),
+          (coding_room true a.n a.ids.now _ c.loop-written.invariant.0 c.loop-written.invariant.1 _ _ gave),
     )
 
 pub overflow_add-from : goal.overflow_add-from
 overflow_add-from c =
-    let gave : Gave true c.args.n c.args.ids.now (record { i = c.loop-written.i; from = c.loop-written.from })
-    (Id (c.loop-written.from + c.skip_present-k.result) (record { i = c.loop-written.i + c.skip_present-k.result; from = c.loop-written.from + c.skip_present-k.result + 1 })) = let a = c.args in
-    gave_absent a.n a.ids.now (record { i = c.loop-written.i; from = c.loop-written.from }) c.skip_present-k.result c.skip_present-k.ensures.0 c.skip_present-k.ensures.1 c.if-n-id.false in
+    let gave = gave_absent c.args.n c.args.ids.now (record { i = c.loop-written.i; from = c.loop-written.from }) c.skip_present-k.result c.skip_present-k.ensures.0 c.skip_present-k.ensures.1 c.if-n-id.false in
     omega (arith, gave.2)
 
 pub overflow_add-i : goal.overflow_add-i
@@ -60,20 +54,15 @@ overflow_add-i c = omega (arith, c.skip_present-k.ensures.0.inside)
 
 pub loop-written-smaller : goal.loop-written-smaller
 loop-written-smaller c =
-    let gave : Gave true c.args.n c.args.ids.now (record { i = c.loop-written.i; from = c.loop-written.from })
-    (Id (c.loop-written.from + c.skip_present-k.result) (record { i = c.loop-written.i + c.skip_present-k.result; from = c.loop-written.from + c.skip_present-k.result + 1 })) = let a = c.args in
-    gave_absent a.n a.ids.now (record { i = c.loop-written.i; from = c.loop-written.from }) c.skip_present-k.result c.skip_present-k.ensures.0 c.skip_present-k.ensures.1 c.if-n-id.false in
+    let gave = gave_absent c.args.n c.args.ids.now (record { i = c.loop-written.i; from = c.loop-written.from }) c.skip_present-k.result c.skip_present-k.ensures.0 c.skip_present-k.ensures.1 c.if-n-id.false in
     omega (arith, gave.2)
 
 pub loop-written-preserved : goal.loop-written-preserved
 loop-written-preserved c =
-    let gave : Gave true c.args.n c.args.ids.now (record { i = c.loop-written.i; from = c.loop-written.from })
-    (Id (c.loop-written.from + c.skip_present-k.result) (record { i = c.loop-written.i + c.skip_present-k.result; from = c.loop-written.from + c.skip_present-k.result + 1 })) = let a = c.args in
-    gave_absent a.n a.ids.now (record { i = c.loop-written.i; from = c.loop-written.from }) c.skip_present-k.result c.skip_present-k.ensures.0 c.skip_present-k.ensures.1 c.if-n-id.false in
-    let g = gave in
+    let gave = gave_absent c.args.n c.args.ids.now (record { i = c.loop-written.i; from = c.loop-written.from }) c.skip_present-k.result c.skip_present-k.ensures.0 c.skip_present-k.ensures.1 c.if-n-id.false in
     let a = c.args in
     let v : ℕ = c.loop-written.from + c.skip_present-k.result - c.loop-written.from in (
       c.loop-written.invariant.0 ++ delta v,
-      coding_next true a.n a.ids.now _ c.loop-written.invariant.0 c.loop-written.invariant.1 _ _ g,
+      coding_next true a.n a.ids.now _ c.loop-written.invariant.0 c.loop-written.invariant.1 _ _ gave,
       wrote_then a.out.now c.loop-written.out a.w c.loop-written.written c.loop-written.invariant.0 c.loop-written.invariant.2 c.write_delta-written.new.out c.write_delta-written.result (delta v) c.write_delta-written.ensures,
     )

@@ -1,4 +1,4 @@
-use Prim.Native.Nat.{ℕ, ◌+◌, ◌-◌}
+use Prim.Native.Nat.{ℕ, ◌-◌}
 use mathlib.Core.Path.{sym, subst}
 use mathlib.Core.Bool.{false}
 use mathlib.Core.List.{[], ◌++◌}
@@ -6,11 +6,10 @@ use native.Mathlib.Omega.{arith}
 use lib.ListN.{length, get_or}
 use Rattle.codec.specs.Codes.{delta}
 use Rattle.codec.specs.Sets.{gap_bits}
-use Rattle.codec.specs.Inside.Gaps.{coded_ids, Gave}
+use Rattle.codec.specs.Inside.Gaps.{coded_ids}
 use Rattle.codec.specs.Inside.Writers.{Wrote}
 use Rattle.codec.proofs.Laws.Coded.{coding_start, coding_next, coding_end, coding_room, gave_id, gave_no_id}
 use Rattle.codec.proofs.Laws.Writers.{wrote_none, wrote_then, ready_after}
-use Rattle.codec.specs.declared.gaps.NextId.TheVariants.{Id}
 use Rattle.codec.proofs.gaps.write_sparse.Goals as goal
 
 pub loop-i-init : goal.loop-i-init
@@ -20,35 +19,26 @@ loop-i-init c =
 
 pub overflow_sub-id : goal.overflow_sub-id
 overflow_sub-id c =
-    let gave : Gave false c.args.n c.args.ids.now (record { i = c.loop-i.i; from = c.loop-i.from })
-    (Id (get_or c.args.ids.now c.loop-i.i 0) (record { i = c.loop-i.i + 1; from = get_or c.args.ids.now c.loop-i.i 0 + 1 })) = let a = c.args in
-    gave_id a.n a.ids.now (record { i = c.loop-i.i; from = c.loop-i.from }) c.loop-i.invariant.1.ahead c.loop-i-test.true in
+    let gave = gave_id c.args.n c.args.ids.now (record { i = c.loop-i.i; from = c.loop-i.from }) c.loop-i.invariant.1.ahead c.loop-i-test.true in
     omega (arith, gave.1)
 
 pub write_delta-written-requires : goal.write_delta-written-requires
 write_delta-written-requires c =
-    let gave : Gave false c.args.n c.args.ids.now (record { i = c.loop-i.i; from = c.loop-i.from })
-    (Id (get_or c.args.ids.now c.loop-i.i 0) (record { i = c.loop-i.i + 1; from = get_or c.args.ids.now c.loop-i.i 0 + 1 })) = let a = c.args in
-    gave_id a.n a.ids.now (record { i = c.loop-i.i; from = c.loop-i.from }) c.loop-i.invariant.1.ahead c.loop-i-test.true in
-    let g = gave in
+    let gave = gave_id c.args.n c.args.ids.now (record { i = c.loop-i.i; from = c.loop-i.from }) c.loop-i.invariant.1.ahead c.loop-i-test.true in
     let a = c.args in (
-      omega (arith, g.2),
+      omega (arith, gave.2),
       ready_after a.out.now c.loop-i.out a.w c.loop-i.written c.loop-i.invariant.0 c.loop-i.invariant.2 (length (gap_bits 0 (coded_ids false a.n a.ids.now))) _ c.requires.ready
-          (coding_room false a.n a.ids.now _ c.loop-i.invariant.0 c.loop-i.invariant.1 _ _ g),
+          (coding_room false a.n a.ids.now _ c.loop-i.invariant.0 c.loop-i.invariant.1 _ _ gave),
     )
 
 pub overflow_add-from : goal.overflow_add-from
 overflow_add-from c =
-    let gave : Gave false c.args.n c.args.ids.now (record { i = c.loop-i.i; from = c.loop-i.from })
-    (Id (get_or c.args.ids.now c.loop-i.i 0) (record { i = c.loop-i.i + 1; from = get_or c.args.ids.now c.loop-i.i 0 + 1 })) = let a = c.args in
-    gave_id a.n a.ids.now (record { i = c.loop-i.i; from = c.loop-i.from }) c.loop-i.invariant.1.ahead c.loop-i-test.true in
+    let gave = gave_id c.args.n c.args.ids.now (record { i = c.loop-i.i; from = c.loop-i.from }) c.loop-i.invariant.1.ahead c.loop-i-test.true in
     omega (arith, gave.2)
 
 pub loop-i-preserved : goal.loop-i-preserved
 loop-i-preserved c =
-    let gave : Gave false c.args.n c.args.ids.now (record { i = c.loop-i.i; from = c.loop-i.from })
-    (Id (get_or c.args.ids.now c.loop-i.i 0) (record { i = c.loop-i.i + 1; from = get_or c.args.ids.now c.loop-i.i 0 + 1 })) = let a = c.args in
-    gave_id a.n a.ids.now (record { i = c.loop-i.i; from = c.loop-i.from }) c.loop-i.invariant.1.ahead c.loop-i-test.true in
+    let gave = gave_id c.args.n c.args.ids.now (record { i = c.loop-i.i; from = c.loop-i.from }) c.loop-i.invariant.1.ahead c.loop-i-test.true in
     let a = c.args in
     let v : ℕ = get_or a.ids.now c.loop-i.i 0 - c.loop-i.from in (
       c.loop-i.invariant.0 ++ delta v,

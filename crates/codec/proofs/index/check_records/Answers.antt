@@ -1,7 +1,7 @@
-use mathlib.Core.Path.{ap, ◌∙◌, subst}
+use mathlib.Core.Path.{ap, ◌∙◌}
 use native.Mathlib.Omega.{arith}
 use Rattle.base.specs.Answers.{of_made}
-use Rattle.codec.specs.Inside.Indexes.{SteppedAt, made_of}
+use Rattle.codec.specs.Inside.Indexes.{made_of}
 use Rattle.codec.proofs.Laws.Indexing.{checking_none, checking_more, checking_stop, checking_end}
 use Rattle.codec.proofs.index.check_records.Goals as goal
 
@@ -15,12 +15,12 @@ pub returns-in_default : goal.returns-in_default
 returns-in_default c =
     let bytes = c.args.bytes.now in
     ap of_made (c.answer.ensures ∙ ap made_of c.in_default.is)
-    ∙ checking_stop _ _ _ _ c.loop-left-test.true c.loop-left.invariant c.in_default.field-0 (subst (SteppedAt bytes c.loop-left.at) c.in_default.is c.next_record-step.ensures)
+    ∙ checking_stop _ _ _ _ c.loop-left-test.true c.loop-left.invariant c.in_default.field-0 c.in_default.ensures
 
 pub loop-left-preserved : goal.loop-left-preserved
 loop-left-preserved c =
     let bytes = c.args.bytes.now in
-    checking_more _ _ _ _ c.loop-left-test.true c.loop-left.invariant _ (subst (SteppedAt bytes c.loop-left.at) c.in-Next.is c.next_record-step.ensures)
+    checking_more _ _ _ _ c.loop-left-test.true c.loop-left.invariant _ c.in-Next.ensures
 
 pub returns : goal.returns
 returns c = checking_end _ _ _ _ (omega arith) c.loop-left.invariant

@@ -1,7 +1,6 @@
-use mathlib.Core.Path.{◌∙◌, subst}
+use mathlib.Core.Path.{◌∙◌}
 use native.Mathlib.Omega.{arith}
 use lib.ListN.{length-set}
-use Rattle.codec.specs.Inside.Indexes.{SteppedAt}
 use Rattle.codec.proofs.Laws.Indexing.{filling_none, filling_more, filling_stop, filling_end}
 use Rattle.codec.proofs.index.fill_index.Goals as goal
 
@@ -24,12 +23,12 @@ shape_of-out-in_default c =
 pub returns-in_default : goal.returns-in_default
 returns-in_default c =
     let bytes = c.args.bytes.now in
-    absurd (filling_stop bytes c.args.count _ _ _ _ c.requires.1 c.loop-i.invariant c.loop-i-test.true c.in_default.field-0 c.requires.0 (subst (SteppedAt bytes c.loop-i.at) c.in_default.is c.next_record.ensures))
+    absurd (filling_stop bytes c.args.count _ _ _ _ c.requires.1 c.loop-i.invariant c.loop-i-test.true c.in_default.field-0 c.requires.0 c.in_default.ensures)
 
 pub loop-i-preserved : goal.loop-i-preserved
 loop-i-preserved c =
     let bytes = c.args.bytes.now in
-    filling_more bytes c.args.count _ _ _ _ c.requires.1 c.loop-i.invariant c.loop-i-test.true _ (subst (SteppedAt bytes c.loop-i.at) c.in-Next.is c.next_record.ensures)
+    filling_more bytes c.args.count _ _ _ _ c.requires.1 c.loop-i.invariant c.loop-i-test.true _ c.in-Next.ensures
 
 pub offset_bounds-out-count : goal.offset_bounds-out-count
 offset_bounds-out-count c = omega (arith, c.loop-i.invariant.size)

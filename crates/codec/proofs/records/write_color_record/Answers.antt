@@ -27,24 +27,23 @@ returns-then-not-is_ascending c =
 
 pub write_short-requires : goal.write_short-requires
 write_short-requires c =
-    let told-short : (c.args.n < 136) × (128 ≤ length c.args.out.now) = let a = c.args in
+    let told_short : (c.args.n < 136) × (128 ≤ length c.args.out.now) = let a = c.args in
     let t = and_true (ltb a.n 136) (leb 128 (length a.out.now)) (sym c.is_short.ensures ∙ c.if-is_short.true) in
     (ltb-true a.n 136 t.0, leb-true 128 (length a.out.now) t.1) in
     let ascend : within 0 c.args.n c.args.ids.now ≡ true = sym c.is_ascending.ensures ∙ c.if-not-is_ascending.false in
     let a = c.args in
-    let t = told-short in
-    (within_ids 0 a.n a.ids.now ascend, t.0, t.1)
+    (within_ids 0 a.n a.ids.now ascend, told_short.0, told_short.1)
 
 pub returns-then-is_short : goal.returns-then-is_short
 unfolding write_record
 returns-then-is_short c =
-    let told-short : (c.args.n < 136) × (128 ≤ length c.args.out.now) = let a = c.args in
+    let told_short : (c.args.n < 136) × (128 ≤ length c.args.out.now) = let a = c.args in
     let t = and_true (ltb a.n 136) (leb 128 (length a.out.now)) (sym c.is_short.ensures ∙ c.if-is_short.true) in
     (ltb-true a.n 136 t.0, leb-true 128 (length a.out.now) t.1) in
     let colors : bad_colors c.args.n ≡ false = sym c.bad_colors.ensures ∙ c.if-bad_colors.false in
     let ascend : within 0 c.args.n c.args.ids.now ≡ true = sym c.is_ascending.ensures ∙ c.if-not-is_ascending.false in
     let a = c.args in
-    let room : length (record_of a.n a.ids.now) ≤ length a.out.now = omega (arith, c.write_short.ensures.0, c.write_short.ensures.1, (told-short).1) in
+    let room : length (record_of a.n a.ids.now) ≤ length a.out.now = omega (arith, c.write_short.ensures.0, c.write_short.ensures.1, told_short.1) in
     sym (when_no _ _ _ colors ∙ when_no _ _ _ (not_no _ ascend) ∙ when_no _ _ _ (le-ltb _ _ room)
     ∙ ap₂ (λ (n : ℕ) (x : List ℕ). (done (n ∷ []), x)) (sym c.write_short.ensures.0) (sym c.write_short.ensures.2))
 
