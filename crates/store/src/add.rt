@@ -49,6 +49,7 @@ impl Cell {
     }
 
     // Refusal 12, a unitig is open; 2, ids that are no set; 3, no space.
+    #[tactic(auto, using(crate::proofs::Laws::Adding::adding_tests), unfolding(crate::specs::Add::add_test))]
     fn add_test(self, colors: u32, ids: &[u32]) -> Gate
         requires { (self.records.used ≤ self.records.length) × (bad_colors colors ≡ false) }
         ensures { result ≡ add_test colors self ids.now }
