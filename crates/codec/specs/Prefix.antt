@@ -1,10 +1,10 @@
 -- Section 4 of 01: the length prefix of a record. LEB128: seven bits a byte, low group first, 128 added on all but the last.
-use Rattle.std.specs.Prelude.{ℕ, zero, suc, ◌+◌, ◌-◌, ◌*◌, ◌/◌, ◌%◌, ◌^◌, Bool, true, false, not, cond, ◌||◌, List, [], ◌∷◌, ltb, eqb, length}
+use Rattle.std.specs.Prelude.{ℕ, zero, suc, ◌+◌, ◌-◌, ◌*◌, ◌/◌, ◌%◌, ◌^◌, Bool, true, false, not, cond, ◌||◌, Result, Ok, Err, List, [], ◌∷◌, ltb, eqb, length}
 use Rattle.base.specs.Tests.{◌when◌else◌}
 use Rattle.base.specs.Answers.{Answer, refused, done, number_of}
 use Rattle.base.specs.Parts.{over}
+use Rattle.base.specs.declared.Refusal.{Refusal}
 use Rattle.codec.specs.declared.prefix.Prefix.{Prefix}
-use Rattle.codec.specs.declared.prefix.Prefix.TheVariants.{Whole, Refused}
 
 -- n in at most k groups, 128 added on all but the last
 unfoldable pub leb_in : ℕ → ℕ → List ℕ
@@ -43,9 +43,9 @@ read_prefix bytes = narrow (read_leb 5 true bytes)
 -- ---- what the functions answer
 
 -- a prefix in the numbers of 01: its value and its length, or its refusal
-abbrev pub of_prefix : Prefix → Answer
-of_prefix (Whole value len) = done (value ∷ len ∷ [])
-of_prefix (Refused r) = refused (number_of r)
+abbrev pub of_prefix : Result Prefix Refusal → Answer
+of_prefix (Ok p) = done (p.value ∷ p.len ∷ [])
+of_prefix (Err r) = refused (number_of r)
 
 -- read prefix, by what is read of `total` bytes; 80 is hexadecimal, as in 01
 abbrev pub prefix_in : ℕ → ReadLeb → Answer

@@ -8,7 +8,6 @@ ghost use Rattle.codec.specs.Inside.Gaps.{Ahead, BitsAt};
 ghost use Rattle.codec.specs.Inside.Bitmaps.{MapOf};
 
 use crate::bits::BitWriter;
-use crate::gaps::Checked;
 
 // A chunk of the bitmap, and how many ids of the set are passed behind it.
 #[derive(Clone, Copy)]
@@ -66,14 +65,14 @@ pub(crate) fn write_map(out: &mut [u8], w: BitWriter, ids: &[u32], n: u32) -> Bi
     written
 }
 
-// Whether the bitmap stands at bit place `at`.
-pub(crate) fn same_map(bytes: &[u8], at: usize, ids: &[u32], n: u32) -> Checked
+// The place behind the bitmap, where it stands at bit place `at`.
+pub(crate) fn same_map(bytes: &[u8], at: usize, ids: &[u32], n: u32) -> Option<usize>
     requires within { Within 0 n ids.now × (n ≤ 2 ^ 20) }
     requires bytes_len_bound { (length bytes.now < 2 ^ 60) × (at ≤ 8 * length bytes.now) }
     ensures { BitsAt (map_bits 0 n ids.now) bytes.now at result }
 {
     if bytes.len() * 8 - at < n as usize {
-        return Checked::Bad;
+        return None;
     }
     let mut i: usize = 0;
     let mut base: u32 = 0;
@@ -81,14 +80,12 @@ pub(crate) fn same_map(bytes: &[u8], at: usize, ids: &[u32], n: u32) -> Checked
         let width = chunk_width(base, n);
         let c = map_chunk(ids, i, base, width, n);
         if crate::bits::bits_at(bytes, at + base as usize, width as usize) != c.word {
-            return Checked::Bad;
+            return None;
         }
         i = c.next;
         base += width;
     }
-    Checked::Good {
-        next: at + n as usize,
-    }
+    Some(at + n as usize)
 }
 
 // How many ids the `n` bits from `at` on tell.

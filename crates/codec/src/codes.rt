@@ -8,75 +8,65 @@ ghost use Rattle.codec.specs.Inside.Writers.{Ready, Wrote, CodewordOf, SplitOf};
 
 use crate::bits::BitWriter;
 
-// A value and the bit place behind its code, or that none is there that a set needs.
+// A value and the bit place behind its code. A reader answers none where no value is coded that a set needs.
 #[derive(Clone, Copy)]
-pub(crate) enum ReadCode {
-    Value { value: u32, next: usize },
-    Missing,
+pub(crate) struct ReadCode {
+    pub(crate) value: u32,
+    pub(crate) next: usize,
 }
 
 // The number whose highest set bit is bit `b` and whose lower bits are those from `at`, less 1.
-pub(crate) fn low_at(bytes: &[u8], at: usize, b: usize) -> ReadCode
+pub(crate) fn low_at(bytes: &[u8], at: usize, b: usize) -> Option<ReadCode>
     requires { (length bytes.now < 2 ^ 60) × (at ≤ 8 * length bytes.now) }
     ensures { ReadCodeAt (read_low b) bytes.now at result }
 {
     if 20 < b {
-        return ReadCode::Missing;
+        return None;
     }
     if bytes.len() * 8 - at < b {
-        return ReadCode::Missing;
+        return None;
     }
     let low = crate::bits::low_value(bytes, at, b);
-    ReadCode::Value {
+    Some(ReadCode {
         value: (low + (1u64 << b) - 1) as u32,
         next: at + b,
-    }
+    })
 }
 
-// How many zeros stand before a one, or that the bits end first.
-#[derive(Clone, Copy)]
-pub(crate) enum Zeros {
-    Count(usize),
-    End,
-}
-
-// The value of the gamma code at bit place `at`.
-pub(crate) fn read_gamma(bytes: &[u8], at: usize) -> ReadCode
+// The value of the gamma code at bit place `at`. The loop yields how many zeros stand before a one, or
+// none where the bits end first.
+pub(crate) fn read_gamma(bytes: &[u8], at: usize) -> Option<ReadCode>
     requires { length bytes.now < 2 ^ 60 }
     ensures { ReadCodeAt read_gamma bytes.now at result }
 {
     let mut place = at;
     let zeros = loop {
         if bytes.len() <= place / 8 {
-            break Zeros::End;
+            break None;
         }
         if crate::bits::bit_at(bytes, place) != 0 {
-            break Zeros::Count(place - at);
+            break Some(place - at);
         }
         place += 1;
     };
-    let Zeros::Count(n) = zeros else {
-        return ReadCode::Missing;
-    };
+    let n = zeros?;
     low_at(bytes, at + n + 1, n)
 }
 
 // The value of the delta code at bit place `at`, bit by bit.
-pub(crate) fn delta_at(bytes: &[u8], at: usize) -> ReadCode
+pub(crate) fn delta_at(bytes: &[u8], at: usize) -> Option<ReadCode>
     requires { length bytes.now < 2 ^ 60 }
     ensures { ReadCodeAt read_delta bytes.now at result }
 {
-    let ReadCode::Value { value, next } = read_gamma(bytes, at) else {
-        return ReadCode::Missing;
-    };
+    let ReadCode { value, next } = read_gamma(bytes, at)?;
     low_at(bytes, next, value as usize)
 }
 
-// A code at the low end of a number: its value and its count of bits, or that none is seen.
+// A code at the low end of a number: its value and its count of bits.
 #[derive(Clone, Copy)]
-pub(crate) enum Coded {
-    Code { value: u32, count: usize },
-    Unseen,
+pub(crate) struct Coded {
+    pub(crate) value: u32,
+    pub(crate) count: usize,
 }
 
 // The number whose highest set bit is bit `b` and whose lower bits are those of `x`, less 1.
@@ -88,28 +78,28 @@ pub(crate) fn topped(x: u64, b: u32) -> u64
     x % one + one - 1
 }
 
-// The delta code that the low bits of `w` begin with.
-pub(crate) fn delta_of(w: u64) -> Coded
+// The delta code that the low bits of `w` begin with, where it is seen whole.
+pub(crate) fn delta_of(w: u64) -> Option<Coded>
     ensures { CodedIn w result }
 {
     let z = u64::trailing_zeros(w);
     if 4 < z {
-        return Coded::Unseen;
+        return None;
     }
     let b = topped(w >> (z + 1), z);
     if 20 < b {
-        return Coded::Unseen;
+        return None;
     }
     let v = topped(w >> (2 * z + 1), b as u32);
-    Coded::Code {
+    Some(Coded {
         value: v as u32,
         count: (2 * z + 1) as usize + b as usize,
-    }
+    })
 }
 
 // The value of the delta code at bit place `at`, among the last eight bytes, which `last` shows. Where
 // it doesn't show a code whole, the plain reader decides.
-pub(crate) fn last_delta(bytes: &[u8], last: u64, at: usize) -> ReadCode
+pub(crate) fn last_delta(bytes: &[u8], last: u64, at: usize) -> Option<ReadCode>
     requires bytes_len_bound { (length bytes.now < 2 ^ 60) × (length bytes.now < at / 8 + 8) }
     requires window { Window bytes.now (length bytes.now - 8) last }
     ensures { ReadCodeAt read_delta bytes.now at result }
@@ -119,20 +109,20 @@ pub(crate) fn last_delta(bytes: &[u8], last: u64, at: usize) -> ReadCode
         return delta_at(bytes, at);
     }
     let past = at - 8 * crate::bits::last_start(bytes.len());
-    let Coded::Code { value, count } = delta_of(last >> past) else {
+    let Some(Coded { value, count }) = delta_of(last >> past) else {
         return delta_at(bytes, at);
     };
     if end < at + count {
         return delta_at(bytes, at);
     }
-    ReadCode::Value {
+    Some(ReadCode {
         value,
         next: at + count,
-    }
+    })
 }
 
 // The value of the delta code at bit place `at`: one load where eight bytes are left, none behind.
-pub(crate) fn next_delta(bytes: &[u8], last: u64, at: usize) -> ReadCode
+pub(crate) fn next_delta(bytes: &[u8], last: u64, at: usize) -> Option<ReadCode>
     requires bytes_len_bound { length bytes.now < 2 ^ 60 }
     requires window { Window bytes.now (length bytes.now - 8) last }
     ensures { ReadCodeAt read_delta bytes.now at result }
@@ -142,17 +132,17 @@ pub(crate) fn next_delta(bytes: &[u8], last: u64, at: usize) -> ReadCode
         return last_delta(bytes, last, at);
     }
     let w = crate::bits::word_at(bytes, k) >> (at % 8);
-    let Coded::Code { value, count } = delta_of(w) else {
+    let Some(Coded { value, count }) = delta_of(w) else {
         return delta_at(bytes, at);
     };
-    ReadCode::Value {
+    Some(ReadCode {
         value,
         next: at + count,
-    }
+    })
 }
 
 // The value of the delta code at bit place `at`, where one is read alone.
-pub(crate) fn read_delta(bytes: &[u8], at: usize) -> ReadCode
+pub(crate) fn read_delta(bytes: &[u8], at: usize) -> Option<ReadCode>
     requires { length bytes.now < 2 ^ 60 }
     ensures { ReadCodeAt read_delta bytes.now at result }
 {

@@ -16,10 +16,11 @@ pub(crate) struct Cursor {
     pub(crate) from: u32,
 }
 
+// An id to code, and the place behind it.
 #[derive(Clone, Copy)]
-pub(crate) enum NextId {
-    Id { id: u32, next: Cursor },
-    End,
+pub(crate) struct NextId {
+    pub(crate) id: u32,
+    pub(crate) next: Cursor,
 }
 
 // 1 where the numbers are the same, and 0 where they are not.
@@ -78,8 +79,8 @@ pub(crate) fn skip_present(ids: &[u32], i: usize, from: u32, n: u32) -> usize
     skip_last(ids, i, from, n, k)
 }
 
-// The next id to code.
-pub(crate) fn next_coded(ids: &[u32], n: u32, dense: bool, c: Cursor) -> NextId
+// The next id to code, if there is one.
+pub(crate) fn next_coded(ids: &[u32], n: u32, dense: bool, c: Cursor) -> Option<NextId>
     requires { Ahead n ids.now c }
     ensures { Gave dense n ids.now c result }
 {
@@ -89,27 +90,27 @@ pub(crate) fn next_coded(ids: &[u32], n: u32, dense: bool, c: Cursor) -> NextId
         let k = skip_present(ids, i, from, n);
         let id = from + k as u32;
         if n <= id {
-            return NextId::End;
+            return None;
         }
-        return NextId::Id {
+        return Some(NextId {
             id,
             next: Cursor {
                 i: i + k,
                 from: id + 1,
             },
-        };
+        });
     }
     if ids.len() <= i {
-        return NextId::End;
+        return None;
     }
     let id = ids[i];
-    NextId::Id {
+    Some(NextId {
         id,
         next: Cursor {
             i: i + 1,
             from: id + 1,
         },
-    }
+    })
 }
 
 // How many bits the ids of a sparse set take.
@@ -189,15 +190,8 @@ pub(crate) fn write_dense(out: &mut [u8], w: BitWriter, ids: &[u32], n: u32) -> 
     }
 }
 
-// What a test of bits finds: the place behind them, or that they are not there.
-#[derive(Clone, Copy)]
-pub(crate) enum Checked {
-    Good { next: usize },
-    Bad,
-}
-
-// Whether the coded ids stand at bit place `at`.
-pub(crate) fn same_gaps(bytes: &[u8], at: usize, ids: &[u32], n: u32, dense: bool) -> Checked
+// The place behind the coded ids, where they stand at bit place `at`.
+pub(crate) fn same_gaps(bytes: &[u8], at: usize, ids: &[u32], n: u32, dense: bool) -> Option<usize>
     requires within { Within 0 n ids.now × (n ≤ 2 ^ 20) }
     requires bytes_len_bound { (length bytes.now < 2 ^ 60) × (at ≤ 8 * length bytes.now) }
     ensures { BitsAt (gap_bits 0 (coded_ids dense n ids.now)) bytes.now at result }
@@ -207,18 +201,15 @@ pub(crate) fn same_gaps(bytes: &[u8], at: usize, ids: &[u32], n: u32, dense: boo
     let mut place = at;
     loop {
         let from = c.from;
-        let NextId::Id { id, next } = next_coded(ids, n, dense, c) else {
-            return Checked::Good { next: place };
+        let Some(NextId { id, next }) = next_coded(ids, n, dense, c) else {
+            return Some(place);
         };
-        let ReadCode::Value {
+        let ReadCode {
             value,
             next: behind,
-        } = crate::codes::next_delta(bytes, last, place)
-        else {
-            return Checked::Bad;
-        };
+        } = crate::codes::next_delta(bytes, last, place)?;
         if value != id - from {
-            return Checked::Bad;
+            return None;
         }
         place = behind;
         c = next;
@@ -234,9 +225,15 @@ pub(crate) fn put_id(room: &mut [u32], i: usize, id: u32)
     }
 }
 
-// Whether `n` ids below `top` are coded from `at` on, and the place behind them. The ids go to the front
-// of `room`, as many as it holds.
-pub(crate) fn read_gaps(bytes: &[u8], at: usize, n: usize, top: u32, room: &mut [u32]) -> Checked
+// The place behind the `n` ids below `top` that are coded from `at` on, where they are. The ids go to the
+// front of `room`, as many as it holds.
+pub(crate) fn read_gaps(
+    bytes: &[u8],
+    at: usize,
+    n: usize,
+    top: u32,
+    room: &mut [u32],
+) -> Option<usize>
     requires bytes_len_bound { (length bytes.now < 2 ^ 60) × (at ≤ 8 * length bytes.now) }
     requires top_bound { top ≤ 2 ^ 20 }
     ensures { IdsAt (read_gaps n 0 top) bytes.now at result × Put (read_gaps n 0 top (drop at (bits_of bytes.now))) room.old room.new }
@@ -246,11 +243,9 @@ pub(crate) fn read_gaps(bytes: &[u8], at: usize, n: usize, top: u32, room: &mut 
     let mut from: u32 = 0;
     let mut i: usize = 0;
     while i < n {
-        let ReadCode::Value { value, next } = crate::codes::next_delta(bytes, last, place) else {
-            return Checked::Bad;
-        };
+        let ReadCode { value, next } = crate::codes::next_delta(bytes, last, place)?;
         if top - from <= value {
-            return Checked::Bad;
+            return None;
         }
         let id = from + value;
         put_id(room, i, id);
@@ -258,7 +253,7 @@ pub(crate) fn read_gaps(bytes: &[u8], at: usize, n: usize, top: u32, room: &mut 
         place = next;
         i += 1;
     }
-    Checked::Good { next: place }
+    Some(place)
 }
 
 // The first `n` ids of `room` to the front of `out`.
@@ -351,7 +346,7 @@ pub(crate) fn fill_uncoded(bytes: &[u8], at: usize, n: usize, top: u32, out: &mu
     let mut k: usize = 0;
     let mut i: usize = 0;
     while i < n {
-        let ReadCode::Value { value, next } = crate::codes::next_delta(bytes, last, place) else {
+        let Some(ReadCode { value, next }) = crate::codes::next_delta(bytes, last, place) else {
             return;
         };
         let id = from + value;

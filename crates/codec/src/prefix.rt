@@ -5,44 +5,44 @@ ghost use Rattle.base.specs.Parts.{over};
 ghost use Rattle.codec.specs.Prefix.{prefix_of, read_prefix, of_prefix, prefix_in, write_prefix};
 ghost use Rattle.codec.specs.Inside.Prefixes.{last_of};
 
-use base::{Refusal, Written};
+use base::Refusal;
 
-// A number and the count of its bytes, or why none is there.
-#[derive(Clone, Copy)]
-pub enum Prefix {
-    Whole { value: u32, len: usize },
-    Refused(Refusal),
+// A number and the count of its bytes.
+#[derive(Clone, Copy, Debug, PartialEq, Eq)]
+pub struct Prefix {
+    pub value: u32,
+    pub len: usize,
 }
 
 // The last group `b` behind `i` groups of value `low`.
-fn last_group(low: u64, b: u64, i: usize) -> Prefix
+fn last_group(low: u64, b: u64, i: usize) -> Result<Prefix, Refusal>
     requires { (low < 2 ^ (7 * i)) × (b < 128) × (i < 5) }
     ensures { of_prefix result ≡ last_of low b i }
 {
     let v = low + (b << (7 * i));
     if 4294967295 < v {
-        return Prefix::Refused(Refusal::Damaged);
+        return Err(Refusal::Damaged);
     }
     if b == 0 {
         if 0 < i {
-            return Prefix::Refused(Refusal::Damaged);
+            return Err(Refusal::Damaged);
         }
     }
-    Prefix::Whole {
+    Ok(Prefix {
         value: v as u32,
         len: i + 1,
-    }
+    })
 }
 
 // The length prefix at the front of the bytes.
-pub fn read_varint_len(bytes: &[u8]) -> Prefix
+pub fn read_varint_len(bytes: &[u8]) -> Result<Prefix, Refusal>
     ensures { of_prefix result ≡ prefix_in (length bytes.now) (read_prefix bytes.now) }
 {
     let mut value: u64 = 0;
     let mut i: usize = 0;
     while i < 5 {
         if bytes.len() <= i {
-            return Prefix::Refused(Refusal::Cut);
+            return Err(Refusal::Cut);
         }
         let b = crate::bits::wide(bytes[i]);
         if b < 128 {
@@ -51,7 +51,7 @@ pub fn read_varint_len(bytes: &[u8]) -> Prefix
         value = value + ((b - 128) << (7 * i));
         i += 1;
     }
-    Prefix::Refused(Refusal::Damaged)
+    Err(Refusal::Damaged)
 }
 
 // How many bytes the prefix of `n` has.
@@ -105,13 +105,13 @@ pub(crate) fn fill_varint(n: u32, out: &mut [u8])
 }
 
 // The prefix of `n` to the front of `out`.
-pub fn write_varint(n: u32, out: &mut [u8]) -> Written
+pub fn write_varint(n: u32, out: &mut [u8]) -> Result<usize, Refusal>
     ensures { (of_written result, out.new) ≡ write_prefix n out.old }
 {
     let len = varint_len(n);
     if out.len() < len {
-        return Written::Refused(Refusal::Space);
+        return Err(Refusal::Space);
     }
     fill_varint(n, out);
-    Written::Done(len)
+    Ok(len)
 }

@@ -22,7 +22,7 @@ impl<'a> BitReader<'a> {
 }
 
 // The value of the delta code at the reader's place.
-pub(crate) fn read_delta<'a>(input: BitReader<'a>) -> ReadCode
+pub(crate) fn read_delta<'a>(input: BitReader<'a>) -> Option<ReadCode>
     requires { length input.bytes.now < 2 ^ 60 }
     ensures { ReadCodeAt read_delta input.entry.bytes.now input.entry.position result }
 {
@@ -31,7 +31,7 @@ pub(crate) fn read_delta<'a>(input: BitReader<'a>) -> ReadCode
 
 // The value of the delta code that a payload begins with. Its parameter is a plain slice, so whoever
 // calls it needs nothing of a reader.
-pub(crate) fn first_delta(payload: &[u8]) -> ReadCode
+pub(crate) fn first_delta(payload: &[u8]) -> Option<ReadCode>
     requires { length payload.now < 2 ^ 60 }
     ensures { ReadCodeAt read_delta payload.now 0 result }
 {

@@ -3,13 +3,12 @@ ghost use Rattle.std.specs.Prelude.{◌≡◌, ◌&&◌, ltb, leb, ◌+◌, ◌�
 ghost use Rattle.base.specs.Answers.{of_written, of_given};
 ghost use Rattle.base.specs.Parts.{over};
 ghost use Rattle.codec.specs.Records.{bad_colors, record_of, write_record, record_length, read_by, after_prefix, read_into, is_record};
-ghost use Rattle.codec.specs.Inside.Prefixes.{up_given};
 ghost use Rattle.codec.specs.Prefix.{whole};
 ghost use Rattle.codec.specs.Sets.{Within, encode_set};
 
 use crate::prefix::Prefix;
 use crate::sets::Payload;
-use base::{Given, Refusal, Written};
+use base::{Given, Refusal};
 
 // Whether a colour count is outside 1 to 1,048,576.
 fn bad_colors(n: u32) -> bool
@@ -22,17 +21,17 @@ fn bad_colors(n: u32) -> bool
 }
 
 // How long the record of a set is.
-pub fn color_record_len(n: u32, ids: &[u32]) -> Written
+pub fn color_record_len(n: u32, ids: &[u32]) -> Result<usize, Refusal>
     ensures { of_written result ≡ record_length n ids.now }
 {
     if bad_colors(n) {
-        return Written::Refused(Refusal::Colors);
+        return Err(Refusal::Colors);
     }
     if !crate::sets::is_ascending(ids, n) {
-        return Written::Refused(Refusal::Ids);
+        return Err(Refusal::Ids);
     }
     let len = payload_len(n, ids);
-    Written::Done(crate::prefix::varint_len(len) + len as usize)
+    Ok(crate::prefix::varint_len(len) + len as usize)
 }
 
 // How many bytes the payload of a set has.
@@ -65,61 +64,54 @@ fn write_short(n: u32, ids: &[u32], out: &mut [u8]) -> usize
 }
 
 // The record of a set to the front of `out`.
-pub fn write_color_record(n: u32, ids: &[u32], out: &mut [u8]) -> Written
+pub fn write_color_record(n: u32, ids: &[u32], out: &mut [u8]) -> Result<usize, Refusal>
     ensures { (of_written result, out.new) ≡ write_record n ids.now out.old }
 {
     if bad_colors(n) {
-        return Written::Refused(Refusal::Colors);
+        return Err(Refusal::Colors);
     }
     if !crate::sets::is_ascending(ids, n) {
-        return Written::Refused(Refusal::Ids);
+        return Err(Refusal::Ids);
     }
     if is_short(n, out.len()) {
-        return Written::Done(write_short(n, ids, out));
+        return Ok(write_short(n, ids, out));
     }
     let len = payload_len(n, ids);
     let at = crate::prefix::varint_len(len);
     let total = at + len as usize;
     if out.len() < total {
-        return Written::Refused(Refusal::Space);
+        return Err(Refusal::Space);
     }
     crate::prefix::fill_varint(len, out);
     crate::sets::encode_source_set(&mut out[at..], n, ids);
-    Written::Done(total)
+    Ok(total)
 }
 
-// A prefix that isn't whole passes its refusal straight up.
-fn passed_up(prefix: Prefix) -> Given
-    ensures { result ≡ up_given prefix }
-{
-    match prefix {
-        Prefix::Whole { value: _, len: _ } => Given::Refused(Refusal::Damaged),
-        Prefix::Refused(r) => Given::Refused(r),
-    }
-}
-
-// The set at the front of `input` to the front of `ids`.
-pub fn read_color_record(n: u32, input: &[u8], ids: &mut [u32]) -> Given
+// The set at the front of `input` to the front of `ids`. A prefix that isn't whole passes its refusal straight up.
+pub fn read_color_record(n: u32, input: &[u8], ids: &mut [u32]) -> Result<Given, Refusal>
     ensures { (of_given result, ids.new) ≡ read_into n input.now ids.old }
 {
     if bad_colors(n) {
-        return Given::Refused(Refusal::Colors);
+        return Err(Refusal::Colors);
     }
-    let prefix = crate::prefix::read_varint_len(input);
-    let Prefix::Whole { value, len } = prefix else {
-        return passed_up(prefix);
-    };
+    let Prefix { value, len } = crate::prefix::read_varint_len(input)?;
     read_payload(n, input, value as usize, len, ids)
 }
 
 // The set whose payload is the `value` bytes behind the first `len` of `input`. Ids coded as distances
 // are kept while they are tested, so that most sets are decoded once.
-fn read_payload(n: u32, input: &[u8], value: usize, len: usize, ids: &mut [u32]) -> Given
+fn read_payload(
+    n: u32,
+    input: &[u8],
+    value: usize,
+    len: usize,
+    ids: &mut [u32],
+) -> Result<Given, Refusal>
     requires { (len ≤ length input.now) × (value ≤ 4294967295) × (n ≤ 2 ^ 20) }
     ensures { (of_given result, ids.new) ≡ read_by (after_prefix n (whole value (drop len input.now))) (length input.now) ids.old }
 {
     if input.len() - len < value {
-        return Given::Refused(Refusal::Cut);
+        return Err(Refusal::Cut);
     }
     if value < 64 {
         let mut room = [0u32; 32];
@@ -137,23 +129,23 @@ fn read_whole(
     len: usize,
     ids: &mut [u32],
     room: &mut [u32],
-) -> Given
+) -> Result<Given, Refusal>
     requires { (len + value ≤ length input.now) × (value ≤ 4294967295) × (n ≤ 2 ^ 20) }
     ensures { (of_given result, ids.new) ≡ read_by (after_prefix n (whole value (drop len input.now))) (length input.now) ids.old }
 {
     let end = len + value;
     let payload = &input[len..end];
-    let Payload::Ids { count, at } = crate::sets::check_set(n, payload, room) else {
-        return Given::Refused(Refusal::Damaged);
+    let Some(Payload { count, at }) = crate::sets::check_set(n, payload, room) else {
+        return Err(Refusal::Damaged);
     };
     if ids.len() < count {
-        return Given::Refused(Refusal::Space);
+        return Err(Refusal::Space);
     }
     crate::sets::decode_source_set(n, payload, count, at, room, ids);
-    Given::Done {
+    Ok(Given {
         items: count,
         bytes: end,
-    }
+    })
 }
 
 // Whether reading `input` gives exactly `ids`; nothing is decoded into a buffer.
@@ -166,7 +158,7 @@ pub fn is_color_record(n: u32, ids: &[u32], input: &[u8]) -> bool
     if !crate::sets::is_ascending(ids, n) {
         return false;
     }
-    let Prefix::Whole { value, len } = crate::prefix::read_varint_len(input) else {
+    let Ok(Prefix { value, len }) = crate::prefix::read_varint_len(input) else {
         return false;
     };
     let value = value as usize;

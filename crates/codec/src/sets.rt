@@ -9,7 +9,6 @@ ghost use Rattle.codec.specs.Inside.Payloads.{has_fall, regime_of, PayloadOf, Ke
 
 use crate::bits::BitWriter;
 use crate::codes::ReadCode;
-use crate::gaps::Checked;
 
 // Whether an id is not above the one before it. There is no early way out, so that several ids are
 // compared at a time.
@@ -107,15 +106,14 @@ pub(crate) fn encode_source_set(out: &mut [u8], n: u32, ids: &[u32]) -> usize
     crate::bits::finish(out, w)
 }
 
-// The number of ids that a payload holds and the bit place behind that number, or that it is the
-// payload of no set.
+// The number of ids that a payload holds and the bit place behind that number.
 #[derive(Clone, Copy)]
-pub(crate) enum Payload {
-    Ids { count: usize, at: usize },
-    NoIds,
+pub(crate) struct Payload {
+    pub(crate) count: usize,
+    pub(crate) at: usize,
 }
 
-// The place behind `count` ids that are written from bit place `at` on. Those coded as distances are
+// The place behind the `count` ids that are written from bit place `at` on, where they are. Those coded as distances are
 // kept in `room`, if they fit.
 pub(crate) fn check_body(
     n: u32,
@@ -123,39 +121,37 @@ pub(crate) fn check_body(
     count: usize,
     at: usize,
     room: &mut [u32],
-) -> Checked
+) -> Option<usize>
     requires { (length payload.now < 2 ^ 60) × (at ≤ 8 * length payload.now) × (n ≤ 2 ^ 20) }
     ensures { IdsAt (read_body (regime n count) n count) payload.now at result × KeptBy (regime n count) n count (drop at (bits_of payload.now)) room.new }
 {
     match kind_of(n, count) {
-        Kind::Empty => Checked::Good { next: at },
+        Kind::Empty => Some(at),
         Kind::Sparse => crate::gaps::read_gaps(payload, at, count, n, room),
         Kind::Bitmap => check_map(n, payload, count, at),
         Kind::Dense => check_absent(n, payload, count, at, room),
     }
 }
 
-fn check_map(n: u32, payload: &[u8], count: usize, at: usize) -> Checked
+fn check_map(n: u32, payload: &[u8], count: usize, at: usize) -> Option<usize>
     requires { (length payload.now < 2 ^ 60) × (at ≤ 8 * length payload.now) × (n ≤ 2 ^ 20) }
     ensures { IdsAt (read_map n count) payload.now at result }
 {
     if payload.len() * 8 - at < n as usize {
-        return Checked::Bad;
+        return None;
     }
     if crate::bitmap::count_map(payload, at, n) != count {
-        return Checked::Bad;
+        return None;
     }
-    Checked::Good {
-        next: at + n as usize,
-    }
+    Some(at + n as usize)
 }
 
-fn check_absent(n: u32, payload: &[u8], count: usize, at: usize, room: &mut [u32]) -> Checked
+fn check_absent(n: u32, payload: &[u8], count: usize, at: usize, room: &mut [u32]) -> Option<usize>
     requires { (length payload.now < 2 ^ 60) × (at ≤ 8 * length payload.now) × (n ≤ 2 ^ 20) }
     ensures { IdsAt (read_body dense n count) payload.now at result × KeptBy dense n count (drop at (bits_of payload.now)) room.new }
 {
     if (n as usize) < count {
-        return Checked::Bad;
+        return None;
     }
     crate::gaps::read_gaps(payload, at, n as usize - count, n, room)
 }
@@ -172,24 +168,20 @@ pub(crate) fn is_padding(payload: &[u8], at: usize) -> bool
     crate::bits::bits_at(payload, at, left) == 0
 }
 
-// What set a payload is that of. The ids coded as distances are kept in `room`, if they fit.
-pub(crate) fn check_set(n: u32, payload: &[u8], room: &mut [u32]) -> Payload
+// What set a payload is that of, if of any. The ids coded as distances are kept in `room`, if they fit.
+pub(crate) fn check_set(n: u32, payload: &[u8], room: &mut [u32]) -> Option<Payload>
     requires { (length payload.now < 2 ^ 60) × (n ≤ 2 ^ 20) }
     ensures { PayloadOf n payload.now result × KeptOf n payload.now result room.new }
 {
-    let ReadCode::Value { value, next } = crate::reader::first_delta(payload) else {
-        return Payload::NoIds;
-    };
-    let Checked::Good { next: behind } = check_body(n, payload, value as usize, next, room) else {
-        return Payload::NoIds;
-    };
+    let ReadCode { value, next } = crate::reader::first_delta(payload)?;
+    let behind = check_body(n, payload, value as usize, next, room)?;
     if is_padding(payload, behind) {
-        return Payload::Ids {
+        return Some(Payload {
             count: value as usize,
             at: next,
-        };
+        });
     }
-    Payload::NoIds
+    None
 }
 
 // The ids of a payload to the front of `out`, by `room` where it has them.
@@ -202,7 +194,7 @@ pub(crate) fn decode_source_set(
     out: &mut [u32],
 )
     requires payload_len_bound { (length payload.now < 2 ^ 60) × (n ≤ 2 ^ 20) × (count ≤ length out.old) }
-    requires payload_of { PayloadOf n payload.now (Payload.Ids count at) × KeptOf n payload.now (Payload.Ids count at) room.now }
+    requires payload_of { PayloadOf n payload.now (Some (record { count = count; at = at })) × KeptOf n payload.now (Some (record { count = count; at = at })) room.now }
     ensures { out.new ≡ over (set_ids (decode_set n payload.now)) out.old }
 {
     match kind_of(n, count) {
@@ -213,14 +205,14 @@ pub(crate) fn decode_source_set(
     }
 }
 
-// Whether the bits of a set's ids stand at bit place `at`.
-pub(crate) fn same_body(n: u32, ids: &[u32], payload: &[u8], at: usize) -> Checked
+// The place behind the bits of a set's ids, where they stand at bit place `at`.
+pub(crate) fn same_body(n: u32, ids: &[u32], payload: &[u8], at: usize) -> Option<usize>
     requires within { Within 0 n ids.now × (n ≤ 2 ^ 20) }
     requires payload_len_bound { (length payload.now < 2 ^ 60) × (at ≤ 8 * length payload.now) }
     ensures { BitsAt (body_bits (regime n (length ids.now)) n ids.now) payload.now at result }
 {
     match kind_of(n, ids.len()) {
-        Kind::Empty => Checked::Good { next: at },
+        Kind::Empty => Some(at),
         Kind::Sparse => crate::gaps::same_gaps(payload, at, ids, n, false),
         Kind::Bitmap => crate::bitmap::same_map(payload, at, ids, n),
         Kind::Dense => crate::gaps::same_gaps(payload, at, ids, n, true),
@@ -232,13 +224,13 @@ pub(crate) fn same_set(n: u32, ids: &[u32], payload: &[u8]) -> bool
     requires { Within 0 n ids.now × (n ≤ 2 ^ 20) × (length payload.now < 2 ^ 60) }
     ensures { result ≡ gives_set (decode_set n payload.now) ids.now }
 {
-    let ReadCode::Value { value, next } = crate::reader::first_delta(payload) else {
+    let Some(ReadCode { value, next }) = crate::reader::first_delta(payload) else {
         return false;
     };
     if value as usize != ids.len() {
         return false;
     }
-    let Checked::Good { next: behind } = same_body(n, ids, payload, next) else {
+    let Some(behind) = same_body(n, ids, payload, next) else {
         return false;
     };
     is_padding(payload, behind)

@@ -15,7 +15,7 @@ use Rattle.codec.specs.Codes.{delta, got, read_delta}
 use Rattle.codec.specs.Sets.{Within, map_bits, ids_of, absent, gap_bits}
 use Rattle.codec.specs.Inside.Gaps.{coded_ids, absent_from, coded_from, Ahead, up_in, Skipped, Gave}
 use Rattle.codec.specs.declared.gaps.Cursor.{Cursor}
-use Rattle.codec.specs.declared.gaps.NextId.TheVariants.{Id, End}
+use Rattle.std.specs.Prelude.{Some, None}
 use Rattle.codec.proofs.Laws.Codes.{delta_read}
 
 -- ---- ids that ascend
@@ -205,7 +205,7 @@ module _ (N : ℕ) (ids : List ℕ) (i from : ℕ) where
 -- ---- the ids yet to give
 
 module _ (N : ℕ) (ids : List ℕ) (c : Cursor) where
-  pub gave_absent : (k : ℕ) → Skipped N ids c.i c.from k → Within (c.from + k + 1) N (drop (c.i + k) ids) → c.from + k < N → Gave true N ids c (Id (c.from + k) (record { i = c.i + k; from = c.from + k + 1 }))
+  pub gave_absent : (k : ℕ) → Skipped N ids c.i c.from k → Within (c.from + k + 1) N (drop (c.i + k) ids) → c.from + k < N → Gave true N ids c (Some (record { id = c.from + k; next = record { i = c.i + k; from = c.from + k + 1 } }))
   unfolding coded_from
   gave_absent k s w h = (
     s.same ∙ absent_next N (c.from + k) (drop (c.i + k) ids) h w,
@@ -215,11 +215,11 @@ module _ (N : ℕ) (ids : List ℕ) (c : Cursor) where
     record { inside = s.inside; below = omega arith; left = w },
   )
 
-  pub gave_no_absent : (k : ℕ) → Skipped N ids c.i c.from k → N ≤ c.from + k → Gave true N ids c End
+  pub gave_no_absent : (k : ℕ) → Skipped N ids c.i c.from k → N ≤ c.from + k → Gave true N ids c None
   unfolding coded_from
   gave_no_absent k s h = s.same ∙ absent_end N (c.from + k) (drop (c.i + k) ids) h
 
-  pub gave_id : Ahead N ids c → c.i < length ids → Gave false N ids c (Id (get_or ids c.i 0) (record { i = c.i + 1; from = get_or ids c.i 0 + 1 }))
+  pub gave_id : Ahead N ids c → c.i < length ids → Gave false N ids c (Some (record { id = get_or ids c.i 0; next = record { i = c.i + 1; from = get_or ids c.i 0 + 1 } }))
   unfolding coded_from
   gave_id a h =
       let w = head_within ids N c.i c.from h a.left in (
@@ -230,7 +230,7 @@ module _ (N : ℕ) (ids : List ℕ) (c : Cursor) where
         record { inside = omega arith; below = omega (arith, w.1); left = w.2 },
       )
 
-  pub gave_no_id : length ids ≤ c.i → Gave false N ids c End
+  pub gave_no_id : length ids ≤ c.i → Gave false N ids c None
   unfolding coded_from
   gave_no_id h = drop_of_length-le ids h
 
@@ -256,11 +256,11 @@ module _ (dense : Bool) (N : ℕ) (ids : List ℕ) where
   }
 
   module _ (c : Cursor) (done : List Bool) (so : Coding dense N ids c done) where
-    pub coding_end : Gave dense N ids c End → gap_bits 0 (coded_ids dense N ids) ≡ done
+    pub coding_end : Gave dense N ids c None → gap_bits 0 (coded_ids dense N ids) ≡ done
     unfolding gap_bits
     coding_end e = so.all ∙ ap (λ (l : List ℕ). done ++ gap_bits c.from l) e ∙ append-nil done
 
-    module _ (id : ℕ) (next : Cursor) (gave : Gave dense N ids c (Id id next)) where
+    module _ (id : ℕ) (next : Cursor) (gave : Gave dense N ids c (Some (record { id = id; next = next }))) where
       next_bits : gap_bits c.from (coded_from dense N ids c) ≡ delta (id - c.from) ++ gap_bits next.from (coded_from dense N ids next)
       unfolding gap_bits
       next_bits = ap (gap_bits c.from) gave.0 ∙ ap (λ (n : ℕ). delta (id - c.from) ++ gap_bits n (coded_from dense N ids next)) (sym gave.3)

@@ -15,7 +15,7 @@ use Rattle.codec.specs.Inside.Payloads.{gives_set}
 use Rattle.codec.specs.Prefix.{ReadLeb, whole, cut, bad, read_prefix, of_prefix, prefix_in}
 use Rattle.codec.specs.Records.{same, ReadRecord, found, short, damaged, payload_set, after_prefix, read_record, gives_ids}
 use Rattle.base.specs.declared.Refusal.{Refusal}
-use Rattle.codec.specs.declared.prefix.Prefix.TheVariants.{Refused}
+use Rattle.std.specs.Prelude.{Err}
 use Rattle.codec.proofs.Laws.Codes.{delta_read, delta_only}
 use Rattle.codec.proofs.Laws.Sets.{set_read, set_only, padded_set}
 use Rattle.codec.proofs.Laws.Records.{record_only}
@@ -94,11 +94,11 @@ gives_none N ids input h e = go (read_record N input) refl
     go (found js rest) q = not_same js ids (λ s. true_false (sym (within_all 0 N ids (subst (Within 0 N) s (record_only N input js rest h q).0)) ∙ e))
 
 module _ (N : ℕ) (ids input : List ℕ) where
-  pub gives_refused : (x : Refusal) → of_prefix (Refused x) ≡ prefix_in (length input) (read_prefix input) → gives_ids (read_record N input) ids ≡ false
+  pub gives_refused : (x : Refusal) → of_prefix (Err x) ≡ prefix_in (length input) (read_prefix input) → gives_ids (read_record N input) ids ≡ false
   unfolding read_record
   gives_refused x e = go (read_prefix input) e
     where
-      go : (r : ReadLeb) → of_prefix (Refused x) ≡ prefix_in (length input) r → gives_ids (after_prefix N r) ids ≡ false
+      go : (r : ReadLeb) → of_prefix (Err x) ≡ prefix_in (length input) r → gives_ids (after_prefix N r) ids ≡ false
       go (whole n rest) e = let z : ◌≡◌ {A = ℕ} 0 1 = cc in absurd (omega arith)
       go cut e = refl
       go bad e = refl

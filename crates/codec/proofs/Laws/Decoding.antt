@@ -15,10 +15,8 @@ use Rattle.codec.specs.Codes.{Read, got, end, read_delta}
 use Rattle.codec.specs.Sets.{ids_of, absent, Regime, sparse, bitmap, dense, regime, given, none, and_ids, read_gaps, read_map, read_body, read_set, padding, set, no_set, padded, decode_set}
 use Rattle.codec.specs.Inside.Gaps.{IdsAt}
 use Rattle.codec.specs.Inside.Payloads.{regime_of, PayloadOf, KeptBy, set_ids}
-use Rattle.codec.specs.declared.gaps.Checked.{Checked}
-use Rattle.codec.specs.declared.gaps.Checked.TheVariants.{Good, Bad}
+use Rattle.std.specs.Prelude.{Option, Some, None}
 use Rattle.codec.specs.declared.sets.Kind.{Kind}
-use Rattle.codec.specs.declared.sets.Payload.TheVariants.{Ids}
 use Rattle.codec.proofs.Laws.Sets.{cond_ids, left_ids, regime_some, body_only, padded_set}
 
 -- ---- by each regime
@@ -47,9 +45,9 @@ module _ (N len : ℕ) (bits : List Bool) where
 pub dense_few : (N len : ℕ) (bits : List Bool) → N < len → read_body dense N len bits ≡ none
 dense_few N len bits h = rw (lt-leb len N h)
 
-pub dense_at : (N len : ℕ) (bytes : List ℕ) (at : ℕ) (r : Checked) → len ≤ N → IdsAt (read_gaps (N - len) 0 N) bytes at r → IdsAt (read_body dense N len) bytes at r
-dense_at N len bytes at (Good next) h i = ((absent N i.0.0, rw (le-leb len N h, i.0.1)), i.1)
-dense_at N len bytes at Bad h i = rw (le-leb len N h, i)
+pub dense_at : (N len : ℕ) (bytes : List ℕ) (at : ℕ) (r : Option ℕ) → len ≤ N → IdsAt (read_gaps (N - len) 0 N) bytes at r → IdsAt (read_body dense N len) bytes at r
+dense_at N len bytes at (Some next) h i = ((absent N i.0.0, rw (le-leb len N h, i.0.1)), i.1)
+dense_at N len bytes at None h i = rw (le-leb len N h, i)
 
 pub dense_told : (N len : ℕ) (bits : List Bool) (xs : List ℕ) (rest : List Bool) → read_body dense N len bits ≡ given xs rest → (len ≤ N) × ((ys : List ℕ) × (xs ≡ absent N ys) × (read_gaps (N - len) 0 N bits ≡ given ys rest))
 dense_told N len bits xs rest e =
@@ -57,7 +55,7 @@ dense_told N len bits xs rest e =
     (leb-true len N a.0, left_ids N (read_gaps (N - len) 0 N bits) xs rest a.1)
 
 -- the regime that a kind is
-pub body_at : (N len : ℕ) (bytes : List ℕ) (at : ℕ) (r : Checked) (k x : Kind) → k ≡ x → regime_of k ≡ regime N len → IdsAt (read_body (regime_of x) N len) bytes at r → IdsAt (read_body (regime N len) N len) bytes at r
+pub body_at : (N len : ℕ) (bytes : List ℕ) (at : ℕ) (r : Option ℕ) (k x : Kind) → k ≡ x → regime_of k ≡ regime N len → IdsAt (read_body (regime_of x) N len) bytes at r → IdsAt (read_body (regime N len) N len) bytes at r
 body_at N len bytes at r k x told is i = subst (λ (g : Regime). IdsAt (read_body g N len) bytes at r) (sym (ap regime_of told) ∙ is) i
 
 pub kept_at : (N len : ℕ) (bits : List Bool) (room : List ℕ) (k x : Kind) → k ≡ x → regime_of k ≡ regime N len → KeptBy (regime_of x) N len bits room → KeptBy (regime N len) N len bits room
@@ -119,7 +117,7 @@ module _ (N : ℕ) (payload : List ℕ) (len : ℕ) (rest : List Bool) (e : read
     body_count = sym (body_only (regime N len) N len rest xs left refl b).count
 
 -- what a payload's number and place tell of its ids
-module _ (N : ℕ) (payload : List ℕ) (count at : ℕ) (p : PayloadOf N payload (Ids count at)) where
+module _ (N : ℕ) (payload : List ℕ) (count at : ℕ) (p : PayloadOf N payload (Some (record { count = count; at = at }))) where
   pub payload_body : (k x : Kind) → k ≡ x → regime_of k ≡ regime N count → (rest : List Bool) × (read_body (regime_of x) N count (drop at (bits_of payload)) ≡ given p.0.0 rest)
   unfolding decode_set read_set
   payload_body k x told is =

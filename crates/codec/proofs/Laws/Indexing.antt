@@ -8,59 +8,55 @@ use lib.ListN.{length, take, drop, get_or, set, length-append, length-drop, leng
 use lib.Seq.{drop-cons, drop-drop, drop-set-lt, take-suc-set, take_all, set_split, length-take-le}
 use lib.Dec.{ltb}
 use borrow.Author.Tests.{lt-ltb, le-ltb, le-leb, lt-leb}
-use Rattle.base.specs.Answers.{Answer, refused, done, number_of, of_made}
+use Rattle.base.specs.Answers.{Answer, refused, done, number_of}
 use Rattle.base.specs.Parts.{over}
 use Rattle.base.specs.declared.Refusal.{Refusal}
 use Rattle.base.specs.declared.Refusal.TheVariants as refusal
-use Rattle.base.specs.declared.Made.{Made}
-use Rattle.base.specs.declared.Made.TheVariants as made
+use Rattle.std.specs.Prelude.{Ok, Err}
 use Rattle.base.proofs.Tests.{when_yes, when_no}
-use Rattle.codec.specs.Prefix.{ReadLeb, whole, cut, bad, read_leb, read_prefix, of_prefix, prefix_in}
-use Rattle.codec.specs.declared.prefix.Prefix.{Prefix}
-use Rattle.codec.specs.declared.prefix.Prefix.TheVariants.{Whole, Refused}
+use Rattle.codec.specs.Prefix.{ReadLeb, whole, cut, bad, read_leb, read_prefix, prefix_in}
 use Rattle.codec.specs.Index.{Indexed, entries, stopped, and_entry, behind, index_from, index_of, index_by, make_index}
 use Rattle.codec.specs.Inside.Indexes.{SteppedAt, outcome, entries_in}
-use Rattle.codec.specs.declared.index.Step.TheVariants as step
 use Rattle.codec.proofs.Laws.Prefix.{prefix_behind}
 
 -- ---- one record
 
 -- what the prefix at `at` answers
-abbrev pub Says : List ℕ → ℕ → Prefix → Type 0
-Says bytes at p = prefix_in (length (drop at bytes)) (read_prefix (drop at bytes)) ≡ of_prefix p
+abbrev pub Says : List ℕ → ℕ → Answer → Type 0
+Says bytes at a = prefix_in (length (drop at bytes)) (read_prefix (drop at bytes)) ≡ a
 
 -- the part of the bytes from `at` on, as the code takes it
-pub part_says : (bytes : List ℕ) (at : ℕ) {p q : Prefix}
-    → of_prefix p ≡ prefix_in (length (take (length bytes - at) (drop at bytes))) (read_prefix (take (length bytes - at) (drop at bytes))) → p ≡ q → Says bytes at q
-part_says bytes at e f =
+pub part_says : (bytes : List ℕ) (at : ℕ) {a : Answer}
+    → a ≡ prefix_in (length (take (length bytes - at) (drop at bytes))) (read_prefix (take (length bytes - at) (drop at bytes))) → Says bytes at a
+part_says bytes at e =
     let part : take (length bytes - at) (drop at bytes) ≡ drop at bytes = take_all (length bytes - at) (drop at bytes) (omega (arith, length-drop at bytes)) in
-    ap (λ (l : List ℕ). prefix_in (length l) (read_prefix l)) (sym part) ∙ sym e ∙ ap of_prefix f
+    ap (λ (l : List ℕ). prefix_in (length l) (read_prefix l)) (sym part) ∙ sym e
 
 -- no byte is a prefix cut short, and a byte below 128 is a whole one
-pub says_none : (bytes : List ℕ) (at : ℕ) → length bytes ≤ at → Says bytes at (Refused refusal.Cut)
+pub says_none : (bytes : List ℕ) (at : ℕ) → length bytes ≤ at → Says bytes at (refused 4)
 unfolding read_prefix read_leb
 says_none bytes at h = rw (drop_of_length-le bytes {i = at} h)
 
-one_byte : (b : ℕ) (rest : List ℕ) → b < 128 → prefix_in (length (b ∷ rest)) (read_prefix (b ∷ rest)) ≡ of_prefix (Whole b 1)
+one_byte : (b : ℕ) (rest : List ℕ) → b < 128 → prefix_in (length (b ∷ rest)) (read_prefix (b ∷ rest)) ≡ done (b ∷ 1 ∷ [])
 unfolding read_prefix read_leb
 one_byte b rest h =
     let n : length (b ∷ rest) - length rest ≡ 1 = omega arith in
     rw (lt-ltb b 128 h, lt-ltb b (2 ^ 32) (omega arith), n)
 
-pub says_byte : (bytes : List ℕ) (at : ℕ) → at < length bytes → get_or bytes at 0 < 128 → Says bytes at (Whole (get_or bytes at 0) 1)
+pub says_byte : (bytes : List ℕ) (at : ℕ) → at < length bytes → get_or bytes at 0 < 128 → Says bytes at (done (get_or bytes at 0 ∷ 1 ∷ []))
 says_byte bytes at h b = rw (drop-cons bytes at 0 h) (one_byte (get_or bytes at 0) (drop (suc at) bytes) b)
 
 module _ (bytes : List ℕ) (at : ℕ) (inside : at ≤ length bytes) where
-  pub step_up : (x : Refusal) → Says bytes at (Refused x) → SteppedAt bytes at (step.Refused x)
+  pub step_up : (k : ℕ) → Says bytes at (refused k) → (count : ℕ) → index_from (suc count) at (drop at bytes) ≡ stopped k
   unfolding index_from
-  step_up x e count = go (read_prefix (drop at bytes)) e
+  step_up k e count = go (read_prefix (drop at bytes)) e
     where
-      go : (r : ReadLeb) → prefix_in (length (drop at bytes)) r ≡ of_prefix (Refused x) → behind (λ (next : ℕ) (rest : List ℕ). index_from count next rest) at (length (drop at bytes)) r ≡ stopped (number_of x)
+      go : (r : ReadLeb) → prefix_in (length (drop at bytes)) r ≡ refused k → behind (λ (next : ℕ) (rest : List ℕ). index_from count next rest) at (length (drop at bytes)) r ≡ stopped k
       go (whole n rest) e = let z : ◌≡◌ {A = ℕ} 0 1 = cc in absurd (omega arith)
-      go cut e = let v : 4 ≡ number_of x = cc in ap stopped v
-      go bad e = let v : 5 ≡ number_of x = cc in ap stopped v
+      go cut e = let v : 4 ≡ k = cc in ap stopped v
+      go bad e = let v : 5 ≡ k = cc in ap stopped v
 
-  module _ (n len : ℕ) (e : Says bytes at (Whole n len)) where
+  module _ (n len : ℕ) (e : Says bytes at (done (n ∷ len ∷ []))) where
     there : (read_prefix (drop at bytes) ≡ whole n (drop len (drop at bytes))) × (len ≤ length (drop at bytes)) × (n < 2 ^ 32)
     there = prefix_behind (drop at bytes) n len (sym e)
 
@@ -78,10 +74,10 @@ module _ (bytes : List ℕ) (at : ℕ) (inside : at ≤ length bytes) where
     unfolding index_from
     from_is count = ap (behind (λ (next : ℕ) (rest : List ℕ). index_from count next rest) at (length (drop at bytes))) there.0
 
-    pub step_cut : length bytes - (at + len) < n → SteppedAt bytes at (step.Refused refusal.Cut)
+    pub step_cut : length bytes - (at + len) < n → SteppedAt bytes at (Err refusal.Cut)
     step_cut h count = from_is count ∙ rw (lt-leb n (length (drop len (drop at bytes))) (omega (arith, left_is)))
 
-    pub step_next : n ≤ length bytes - (at + len) → SteppedAt bytes at (step.Next (at + len + n))
+    pub step_next : n ≤ length bytes - (at + len) → SteppedAt bytes at (Ok (at + len + n))
     step_next h =
         let place : at + (length (drop at bytes) - length (drop len (drop at bytes))) + n ≡ at + len + n = omega (arith, left_is, length-drop at bytes, step_start_lem) in
         let later : drop n (drop len (drop at bytes)) ≡ drop (at + len + n) bytes = ap (drop n) rest_is ∙ drop-drop n (at + len) bytes in (
@@ -122,13 +118,13 @@ module _ (bytes : List ℕ) (count : ℕ) where
     one_less : left ≡ suc (left - 1)
     one_less = omega arith
 
-    pub checking_more : (next : ℕ) → SteppedAt bytes at (step.Next next) → Checking next (left - 1)
+    pub checking_more : (next : ℕ) → SteppedAt bytes at (Ok next) → Checking next (left - 1)
     checking_more next s = record {
       inside = s.1;
       same = c.same ∙ ap (λ (k : ℕ). outcome (index_from k at (drop at bytes))) one_less ∙ ap outcome (s.0 (left - 1)) ∙ outcome_entry at (index_from (left - 1) next (drop next bytes));
     }
 
-    pub checking_stop : (x : Refusal) → SteppedAt bytes at (step.Refused x) → refused (number_of x) ≡ outcome (index_of count bytes)
+    pub checking_stop : (x : Refusal) → SteppedAt bytes at (Err x) → refused (number_of x) ≡ outcome (index_of count bytes)
     checking_stop x s = sym (c.same ∙ ap (λ (k : ℕ). outcome (index_from k at (drop at bytes))) one_less ∙ ap outcome (s (left - 1)))
 
   pub checking_end : (at left : ℕ) → left ≡ 0 → Checking at left → done [] ≡ outcome (index_of count bytes)
@@ -160,7 +156,7 @@ module _ (bytes : List ℕ) (count : ℕ) where
       one_left : count - i ≡ suc (count - (i + 1))
       one_left = omega arith
 
-      pub filling_more : (next : ℕ) → SteppedAt bytes at (step.Next next) → Filling old (set out i at) next (i + 1)
+      pub filling_more : (next : ℕ) → SteppedAt bytes at (Ok next) → Filling old (set out i at) next (i + 1)
       filling_more next s =
           let rest : Indexed = index_from (count - (i + 1)) next (drop next bytes) in
           let front : take (i + 1) (set out i at) ≡ take i out ++ (at ∷ []) = ap (λ (k : ℕ). take k (set out i at)) (add-one i) ∙ take-suc-set out i at (omega (arith, f.size)) in
@@ -173,7 +169,7 @@ module _ (bytes : List ℕ) (count : ℕ) where
                 ∙ after_entry (take i out) at rest ∙ ap (λ (es : List ℕ). with_entries es rest) (sym front);
           }
 
-      pub filling_stop : (x : Refusal) → outcome (index_of count bytes) ≡ done [] → SteppedAt bytes at (step.Refused x) → ⊥
+      pub filling_stop : (x : Refusal) → outcome (index_of count bytes) ≡ done [] → SteppedAt bytes at (Err x) → ⊥
       filling_stop x good s =
           let e : outcome (index_of count bytes) ≡ refused (number_of x) = ap outcome (f.index ∙ ap (λ (k : ℕ). with_entries (take i out) (index_from k at (drop at bytes))) one_left ∙ ap (with_entries (take i out)) (s (count - (i + 1)))) in
           let z : ◌≡◌ {A = ℕ} 0 1 = cc in
@@ -212,8 +208,8 @@ module _ (count : ℕ) (bytes out : List ℕ) where
     unfolding make_index
     enough = when_no (refused 3, out) (ltb (length out) (count + 1)) (index_by (index_of count bytes) out) (le-ltb (length out) (count + 1) (omega arith))
 
-    pub make_stopped : (m : Made) (x : Refusal) → of_made m ≡ outcome (index_of count bytes) → m ≡ made.Refused x → (of_made m, out) ≡ make_index count bytes out
-    make_stopped m x e is = ap (λ (k : Made). (of_made k, out)) is ∙ by_stopped (index_of count bytes) out (number_of x) (sym (ap of_made is) ∙ e) ∙ sym enough
+    pub make_stopped : (x : Refusal) → refused (number_of x) ≡ outcome (index_of count bytes) → (refused (number_of x), out) ≡ make_index count bytes out
+    make_stopped x e = by_stopped (index_of count bytes) out (number_of x) e ∙ sym enough
 
     pub make_done : (after : List ℕ) → outcome (index_of count bytes) ≡ done [] → after ≡ over (entries_in (index_of count bytes)) out → (done [], after) ≡ make_index count bytes out
     make_done after good new = ap (λ (l : List ℕ). (done [], l)) new ∙ by_entries (index_of count bytes) out (sym good) ∙ sym enough

@@ -18,9 +18,7 @@ use Rattle.codec.specs.Prefix.{prefix_of, ReadLeb, whole, cut, bad, read_prefix,
 use Rattle.codec.specs.Sets.{Within, Decoded, set, no_set, decode_set}
 use Rattle.codec.specs.Inside.Payloads.{PayloadOf, set_ids}
 use Rattle.codec.specs.Records.{record_of, found, payload_set, after_prefix, read_record, bad_colors, read_by, read_into}
-use Rattle.codec.specs.Inside.Prefixes.{up_given}
-use Rattle.codec.specs.declared.prefix.Prefix.TheVariants.{Refused}
-use Rattle.codec.specs.declared.sets.Payload.TheVariants.{Ids}
+use Rattle.std.specs.Prelude.{Err, Some}
 use Rattle.codec.proofs.Laws.Codes.{gamma_read}
 use Rattle.codec.proofs.Laws.Prefix.{prefix_read}
 use Rattle.codec.proofs.Laws.Records.{record_read, record_only}
@@ -43,7 +41,7 @@ module _ (N : ℕ) (input : List ℕ) (value len : ℕ) (out : List ℕ) (inside
     unfolding read_by
     payload_damaged e = rw (by_set no_set e)
 
-    module _ (count at : ℕ) (p : PayloadOf N (take (len + value - len) (drop len input)) (Ids count at)) where
+    module _ (count at : ℕ) (p : PayloadOf N (take (len + value - len) (drop len input)) (Some (record { count = count; at = at }))) where
       found_set : after_prefix N (whole value (drop len input)) ≡ found p.0.0 (drop value (drop len input))
       found_set = by_set (set p.0.0) p.0.1
 
@@ -70,11 +68,11 @@ module _ (N : ℕ) (input out : List ℕ) (good : bad_colors N ≡ false) where
   by_prefix r e = when_no _ _ _ good ∙ ap (λ (q : ReadLeb). read_by (after_prefix N q) (length input) out) e
 
   -- a prefix that isn't whole
-  pub read_up : (r : Refusal) → of_prefix (Refused r) ≡ prefix_in (length input) (read_prefix input) → (of_given (up_given (Refused r)), out) ≡ read_into N input out
+  pub read_up : (r : Refusal) → of_prefix (Err r) ≡ prefix_in (length input) (read_prefix input) → (of_given (Err r), out) ≡ read_into N input out
   unfolding read_by
   read_up r e = go (read_prefix input) refl e
     where
-      go : (q : ReadLeb) → read_prefix input ≡ q → of_prefix (Refused r) ≡ prefix_in (length input) q → (of_given (up_given (Refused r)), out) ≡ read_into N input out
+      go : (q : ReadLeb) → read_prefix input ≡ q → of_prefix (Err r) ≡ prefix_in (length input) q → (of_given (Err r), out) ≡ read_into N input out
       go (whole n rest) s e = let x : ◌≡◌ {A = ℕ} 0 1 = cc in absurd (omega arith)
       go cut s e = ap (λ (a : Answer). (a, out)) e ∙ sym (by_prefix cut s)
       go bad s e = ap (λ (a : Answer). (a, out)) e ∙ sym (by_prefix bad s)

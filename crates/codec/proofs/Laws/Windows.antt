@@ -14,7 +14,7 @@ use Rattle.codec.specs.Bits.{low_bits, value_of, bits_of}
 use Rattle.codec.specs.Codes.{high_bit, gamma, delta, got, read_delta}
 use Rattle.codec.specs.Inside.Windows.{Window}
 use Rattle.codec.specs.Inside.Places.{ReadCodeAt}
-use Rattle.codec.specs.declared.codes.ReadCode.TheVariants.{Value}
+use Rattle.std.specs.Prelude.{Some}
 use Rattle.codec.proofs.Laws.Low.{length_low, low_add, low_mod, low_join, value_low, length_bits}
 use Rattle.codec.proofs.Laws.Codes.{high_unique, delta_read}
 use Rattle.codec.proofs.Laws.Bits.{low_top, low_more, joined_lt}
@@ -159,7 +159,7 @@ pub word_window : (bits : List Bool) (r : ℕ) (rest : List Bool) → bits ≡ l
 word_window bits r rest e = (_, ap (λ (l : List Bool). l ++ replicate 64 false) e ∙ append_assoc (low_bits 64 r) rest (replicate 64 false))
 
 -- a code that the window at byte k shows whole is the one that is read
-pub window_found : (xs : List ℕ) (k at r : ℕ) → Window xs k r → (v n : ℕ) → (low_bits n (r / 2 ^ (at - 8 * k)) ≡ delta v) × (n ≤ 29) → 8 * k ≤ at → at + n ≤ 8 * k + 64 → at + n ≤ 8 * length xs → ReadCodeAt read_delta xs at (Value v (at + n))
+pub window_found : (xs : List ℕ) (k at r : ℕ) → Window xs k r → (v n : ℕ) → (low_bits n (r / 2 ^ (at - 8 * k)) ≡ delta v) × (n ≤ 29) → 8 * k ≤ at → at + n ≤ 8 * k + 64 → at + n ≤ 8 * length xs → ReadCodeAt read_delta xs at (Some (record { value = v; next = at + n }))
 window_found xs k at r w v n c low high h =
     let past : ℕ = at - 8 * k in
     let here : List Bool = bits_of (drop k xs) in

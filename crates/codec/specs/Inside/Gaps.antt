@@ -1,13 +1,10 @@
 -- Ids coded as distances, one at a time: what a cursor has yet to give, and what a reader finds.
-use Rattle.std.specs.Prelude.{ℕ, zero, suc, ◌+◌, ◌-◌, ◌*◌, ◌≤◌, ◌<◌, ◌≡◌, Bool, true, false, not, List, [], ◌∷◌, ◌++◌, map, length, take, drop, get_or, eqb}
+use Rattle.std.specs.Prelude.{ℕ, zero, suc, ◌+◌, ◌-◌, ◌*◌, ◌≤◌, ◌<◌, ◌≡◌, Bool, true, false, not, Option, Some, None, List, [], ◌∷◌, ◌++◌, map, length, take, drop, get_or, eqb}
 use Rattle.base.specs.Parts.{over}
 use Rattle.codec.specs.Bits.{bits_of, digit}
 use Rattle.codec.specs.Sets.{Within, map_bits, ids_of, absent, ReadIds, given, none}
 use Rattle.codec.specs.declared.gaps.Cursor.{Cursor}
 use Rattle.codec.specs.declared.gaps.NextId.{NextId}
-use Rattle.codec.specs.declared.gaps.NextId.TheVariants.{Id, End}
-use Rattle.codec.specs.declared.gaps.Checked.{Checked}
-use Rattle.codec.specs.declared.gaps.Checked.TheVariants.{Good, Bad}
 
 -- the ids that a set codes as distances: its own, or, of a dense set, those absent
 unfoldable pub coded_ids : Bool → ℕ → List ℕ → List ℕ
@@ -42,10 +39,10 @@ pub record Skipped (N : ℕ) (ids : List ℕ) (i from k : ℕ) : Type 0 where
   pub same : absent_from from (N - from) (drop i ids) ≡ absent_from (from + k) (N - (from + k)) (drop (i + k) ids)
 
 -- the next id and the cursor behind it, or the end
-abbrev pub Gave : Bool → ℕ → List ℕ → Cursor → NextId → Type 0
-Gave dense N ids c (Id id next) =
-    (coded_from dense N ids c ≡ id ∷ coded_from dense N ids next) × (c.from ≤ id) × (id < N) × (next.from ≡ id + 1) × Ahead N ids next
-Gave dense N ids c End = coded_from dense N ids c ≡ []
+abbrev pub Gave : Bool → ℕ → List ℕ → Cursor → Option NextId → Type 0
+Gave dense N ids c (Some g) =
+    (coded_from dense N ids c ≡ g.id ∷ coded_from dense N ids g.next) × (c.from ≤ g.id) × (g.id < N) × (g.next.from ≡ g.id + 1) × Ahead N ids g.next
+Gave dense N ids c None = coded_from dense N ids c ≡ []
 
 -- ---- readers
 
@@ -67,9 +64,9 @@ abbrev pub Accepted : ReadIds → Type 0
 Accepted r = (xs : List ℕ) × (rest : List Bool) × (r ≡ given xs rest)
 
 -- ids are read from a place on, and the place behind them; or none are
-abbrev pub IdsAt : (List Bool → ReadIds) → List ℕ → ℕ → Checked → Type 0
-IdsAt read bytes at (Good next) = ((xs : List ℕ) × (read (drop at (bits_of bytes)) ≡ given xs (drop next (bits_of bytes)))) × (next ≤ 8 * length bytes)
-IdsAt read bytes at Bad = read (drop at (bits_of bytes)) ≡ none
+abbrev pub IdsAt : (List Bool → ReadIds) → List ℕ → ℕ → Option ℕ → Type 0
+IdsAt read bytes at (Some next) = ((xs : List ℕ) × (read (drop at (bits_of bytes)) ≡ given xs (drop next (bits_of bytes)))) × (next ≤ 8 * length bytes)
+IdsAt read bytes at None = read (drop at (bits_of bytes)) ≡ none
 
 -- the ids read stand in the front of what was lent for them, as many as fit
 abbrev pub Put : ReadIds → List ℕ → List ℕ → Type 0
@@ -82,6 +79,6 @@ Kept (given xs rest) n room = n ≤ length room → take n room ≡ xs
 Kept none n room = Unit {0}
 
 -- these bits stand at a place, and the place behind them; or they do not
-abbrev pub BitsAt : List Bool → List ℕ → ℕ → Checked → Type 0
-BitsAt bits bytes at (Good next) = (drop at (bits_of bytes) ≡ bits ++ drop next (bits_of bytes)) × (next ≤ 8 * length bytes)
-BitsAt bits bytes at Bad = ((rest : List Bool) → drop at (bits_of bytes) ≡ bits ++ rest → ⊥)
+abbrev pub BitsAt : List Bool → List ℕ → ℕ → Option ℕ → Type 0
+BitsAt bits bytes at (Some next) = (drop at (bits_of bytes) ≡ bits ++ drop next (bits_of bytes)) × (next ≤ 8 * length bytes)
+BitsAt bits bytes at None = ((rest : List Bool) → drop at (bits_of bytes) ≡ bits ++ rest → ⊥)

@@ -1,5 +1,5 @@
 -- What is found in a payload.
-use Rattle.std.specs.Prelude.{ℕ, ◌-◌, ◌*◌, ◌≤◌, ◌≡◌, Bool, false, ◌||◌, List, [], ◌∷◌, leb, length, drop}
+use Rattle.std.specs.Prelude.{ℕ, ◌-◌, ◌*◌, ◌≤◌, ◌≡◌, Bool, false, ◌||◌, Option, Some, None, List, [], ◌∷◌, leb, length, drop}
 use Rattle.codec.specs.Bits.{bits_of}
 use Rattle.codec.specs.Codes.{got, read_delta}
 use Rattle.codec.specs.Sets.{Regime, empty, sparse, bitmap, dense, regime, read_gaps, Decoded, set, no_set, decode_set}
@@ -8,7 +8,6 @@ use Rattle.codec.specs.Records.{same}
 use Rattle.codec.specs.declared.sets.Kind.{Kind}
 use Rattle.codec.specs.declared.sets.Kind.TheVariants.{Empty, Sparse, Bitmap, Dense}
 use Rattle.codec.specs.declared.sets.Payload.{Payload}
-use Rattle.codec.specs.declared.sets.Payload.TheVariants.{Ids, NoIds}
 
 -- whether one of the ids behind x is not above the one before it
 unfoldable pub has_fall : ℕ → List ℕ → Bool
@@ -31,12 +30,12 @@ gives_set (set js) ids = same js ids
 gives_set no_set ids = false
 
 -- how many ids the payload's set has, and the bit place behind that number; or that it is the payload of no set
-abbrev pub PayloadOf : ℕ → List ℕ → Payload → Type 0
-PayloadOf N payload (Ids count at) =
-    ((xs : List ℕ) × (decode_set N payload ≡ set xs) × (count ≡ length xs))
-    × (read_delta (bits_of payload) ≡ got count (drop at (bits_of payload)))
-    × (at ≤ 8 * length payload)
-PayloadOf N payload NoIds = decode_set N payload ≡ no_set
+abbrev pub PayloadOf : ℕ → List ℕ → Option Payload → Type 0
+PayloadOf N payload (Some p) =
+    ((xs : List ℕ) × (decode_set N payload ≡ set xs) × (p.count ≡ length xs))
+    × (read_delta (bits_of payload) ≡ got p.count (drop p.at (bits_of payload)))
+    × (p.at ≤ 8 * length payload)
+PayloadOf N payload None = decode_set N payload ≡ no_set
 
 -- the ids that are coded as distances stand in the front of a buffer that has space for them
 abbrev pub KeptBy : Regime → ℕ → ℕ → List Bool → List ℕ → Type 0
@@ -46,6 +45,6 @@ KeptBy bitmap N n bits room = Unit {0}
 KeptBy dense N n bits room = Kept (read_gaps (N - n) 0 N bits) (N - n) room
 
 -- the same of what is found in a payload
-abbrev pub KeptOf : ℕ → List ℕ → Payload → List ℕ → Type 0
-KeptOf N payload (Ids count at) room = KeptBy (regime N count) N count (drop at (bits_of payload)) room
-KeptOf N payload NoIds room = Unit {0}
+abbrev pub KeptOf : ℕ → List ℕ → Option Payload → List ℕ → Type 0
+KeptOf N payload (Some p) room = KeptBy (regime N p.count) N p.count (drop p.at (bits_of payload)) room
+KeptOf N payload None room = Unit {0}

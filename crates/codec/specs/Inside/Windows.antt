@@ -1,15 +1,14 @@
 -- Bits at the low end of a number.
-use Rattle.std.specs.Prelude.{ℕ, ◌≤◌, ◌≡◌, Bool, false, List, ◌++◌, drop, replicate}
+use Rattle.std.specs.Prelude.{ℕ, ◌≤◌, ◌≡◌, Bool, false, Option, Some, None, List, ◌++◌, drop, replicate}
 use Rattle.codec.specs.Bits.{low_bits, bits_of}
 use Rattle.codec.specs.Codes.{delta}
 use Rattle.codec.specs.declared.codes.Coded.{Coded}
-use Rattle.codec.specs.declared.codes.Coded.TheVariants.{Code, Unseen}
 
 -- the 64 bits from byte k on, zeros past the end
 abbrev pub Window : List ℕ → ℕ → ℕ → Type 0
 Window bytes k w = (tail : List Bool) × (bits_of (drop k bytes) ++ replicate 64 false ≡ low_bits 64 w ++ tail)
 
 -- the low bits begin with the code of a value; or nothing is said
-abbrev pub CodedIn : ℕ → Coded → Type 0
-CodedIn w (Code v n) = (low_bits n w ≡ delta v) × (n ≤ 29)
-CodedIn w Unseen = Unit {0}
+abbrev pub CodedIn : ℕ → Option Coded → Type 0
+CodedIn w (Some c) = (low_bits c.count w ≡ delta c.value) × (c.count ≤ 29)
+CodedIn w None = Unit {0}

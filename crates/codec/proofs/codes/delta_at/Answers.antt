@@ -5,13 +5,14 @@ use Rattle.codec.proofs.Laws.Codes.{delta_from, delta_large}
 use Rattle.codec.proofs.Laws.Places.{found_as}
 use Rattle.codec.proofs.codes.delta_at.Goals as goal
 
-pub returns-in_default : goal.returns-in_default
-returns-in_default c =
-    delta_large _ (λ n mid e. omega (arith, c.in_default.ensures n mid e))
+pub returns-in_err-value : goal.returns-in_err-value
+returns-in_err-value c =
+    rw c.from_residual.ensures (delta_large _ (λ n mid e. omega (arith, c.in_err-value.ensures n mid e)))
 
 pub low_at-requires : goal.low_at-requires
-low_at-requires c = omega (arith, c.in-Value.ensures.1)
+low_at-requires c = omega (arith, c.in_ok-value.ensures.1)
 
 pub returns : goal.returns
 returns c =
-    found_as read_delta (read_low c.in-Value.value) c.args.bytes.now c.args.at c.in-Value.next c.low_at.result (delta_from _ _ _ c.in-Value.ensures.0) c.low_at.ensures
+    let r = c.in_ok-value.field-0 in
+    found_as read_delta (read_low r.value) c.args.bytes.now c.args.at r.next c.low_at.result (delta_from _ _ _ c.in_ok-value.ensures.0) c.low_at.ensures

@@ -3,16 +3,16 @@ use Prim.Native.Nat.{ℕ, ◌-◌, ◌*◌, ◌/◌, ◌%◌, ◌^◌}
 use mathlib.Core.Path.{◌≡◌, subst}
 use native.Mathlib.Omega.{arith}
 use Rattle.codec.specs.Inside.Windows.{CodedIn}
-use Rattle.codec.specs.declared.codes.Coded.TheVariants.{Code}
+use Rattle.std.specs.Prelude.{Some}
 use Rattle.codec.proofs.Laws.Windows.{word_window, window_found}
 use Rattle.codec.proofs.codes.next_delta.Goals as goal
 
 -- what the window shows, its bit place counted from the window's
-code : (c : goal.In-Code) → CodedIn (c.word_at.result / 2 ^ (c.args.at - 8 * (c.args.at / 8))) (Code c.in-Code.value c.in-Code.count)
+code : (c : goal.In-Some) → CodedIn (c.word_at.result / 2 ^ (c.args.at - 8 * (c.args.at / 8))) (Some c.in-Some.field-0)
 code c =
     let at : ℕ = c.args.at in
     let p : at % 8 ≡ at - 8 * (at / 8) = omega arith in
-    subst (λ (i : ℕ). CodedIn (c.word_at.result / 2 ^ i) (Code c.in-Code.value c.in-Code.count)) p c.in-Code.ensures
+    subst (λ (i : ℕ). CodedIn (c.word_at.result / 2 ^ i) (Some c.in-Some.field-0)) p c.in-Some.ensures
 
 pub overflow_add-result : goal.overflow_add-result
 overflow_add-result c = omega (arith, (code c).1)

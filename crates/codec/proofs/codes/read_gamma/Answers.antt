@@ -4,8 +4,7 @@ use mathlib.Core.Bool.{true, false}
 use native.Mathlib.Omega.{arith}
 use lib.ListN.{length, get_or, drop}
 use mathlib.Core.List.{List}
-use Rattle.codec.specs.declared.codes.Zeros.{Zeros}
-use Rattle.codec.specs.declared.codes.Zeros.TheVariants.{Count, End}
+use Rattle.std.specs.Prelude.{Option, Some, None}
 use Rattle.codec.specs.Bits.{bits_of, digit}
 use Rattle.codec.specs.Codes.{read_zeros, read_gamma, read_low, got, end}
 use Rattle.codec.proofs.Laws.Low.{length_bits, digit_zero, digit_one}
@@ -27,23 +26,23 @@ loop-place-preserved c =
     (omega arith, c.loop-place.invariant.1 ∙ zeros_more bits (place - at) place (rw length_bits (omega arith)) bit ∙ ap (λ (n : ℕ). read_zeros n (drop (place + 1) bits)) z)
 
 -- what the loop yields
-abbrev Yields : List ℕ → ℕ → Zeros → Type 0
-Yields bytes at (Count n) = (read_zeros 0 (drop at (bits_of bytes)) ≡ got n (drop (at + n + 1) (bits_of bytes))) × (at + n < 8 * length bytes)
-Yields bytes at End = read_zeros 0 (drop at (bits_of bytes)) ≡ end
+abbrev Yields : List ℕ → ℕ → Option ℕ → Type 0
+Yields bytes at (Some n) = (read_zeros 0 (drop at (bits_of bytes)) ≡ got n (drop (at + n + 1) (bits_of bytes))) × (at + n < 8 * length bytes)
+Yields bytes at None = read_zeros 0 (drop at (bits_of bytes)) ≡ end
 
 -- zeros up to the end, and zeros up to a one
 module _ (bytes : List ℕ) (at place : ℕ) (inv : (at ≤ place) × (read_zeros 0 (drop at (bits_of bytes)) ≡ read_zeros (place - at) (drop place (bits_of bytes)))) where
-  ended : length bytes ≤ place / 8 → Yields bytes at End
+  ended : length bytes ≤ place / 8 → Yields bytes at None
   ended h = inv.1 ∙ zeros_end (bits_of bytes) (place - at) place (rw length_bits (omega arith))
 
-  counted : place / 8 < length bytes → (b : ℕ) → b ≡ digit (get_or (bits_of bytes) place false) → (b ≡ 0 → ⊥) → Yields bytes at (Count (place - at))
+  counted : place / 8 < length bytes → (b : ℕ) → b ≡ digit (get_or (bits_of bytes) place false) → (b ≡ 0 → ⊥) → Yields bytes at (Some (place - at))
   counted h b e ne =
       let bit : get_or (bits_of bytes) place false ≡ true = digit_one (get_or (bits_of bytes) place false) (λ z. ne (e ∙ z)) in
       let next : at + (place - at) + 1 ≡ place + 1 = omega arith in
       (rw next (inv.1 ∙ zeros_stop (bits_of bytes) (place - at) place (rw length_bits (omega arith)) bit), omega arith)
 
-pub returns-in_default : goal.returns-in_default
-returns-in_default c =
+pub returns-in_err-n : goal.returns-in_err-n
+returns-in_err-n c =
     let bytes = c.args.bytes.now in
     let at = c.args.at in
     let place = c.loop-place.place in
@@ -53,8 +52,8 @@ returns-in_default c =
       | else-bytes-place+then-bit_at-ne0 w ↦ subst (Yields bytes at) (sym w.zeros-is) (counted bytes at place c.loop-place.invariant w.if-bytes-place.false _ w.bit_at.ensures w.if-bit_at-ne0.true)
     ]
     in
-    let z = subst (Yields bytes at) c.in_default.is yields in
-    λ v rest e. end_got (gamma_end _ z) e
+    let z = subst (Yields bytes at) c.in_err-n.was yields in
+    rw c.from_residual.ensures (λ v rest e. end_got (gamma_end _ z) e)
 
 pub overflow_add-at : goal.overflow_add-at
 overflow_add-at c =
@@ -67,7 +66,7 @@ overflow_add-at c =
       | else-bytes-place+then-bit_at-ne0 w ↦ subst (Yields bytes at) (sym w.zeros-is) (counted bytes at place c.loop-place.invariant w.if-bytes-place.false _ w.bit_at.ensures w.if-bit_at-ne0.true)
     ]
     in
-    let found : Yields bytes at (Count c.in-Count.n) = subst (Yields bytes at) c.in-Count.is yields in
+    let found : Yields bytes at (Some c.in_ok-n.n) = subst (Yields bytes at) c.in_ok-n.was yields in
     omega (arith, found.1)
 
 pub overflow_add-at-2 : goal.overflow_add-at-2
@@ -81,7 +80,7 @@ overflow_add-at-2 c =
       | else-bytes-place+then-bit_at-ne0 w ↦ subst (Yields bytes at) (sym w.zeros-is) (counted bytes at place c.loop-place.invariant w.if-bytes-place.false _ w.bit_at.ensures w.if-bit_at-ne0.true)
     ]
     in
-    let found : Yields bytes at (Count c.in-Count.n) = subst (Yields bytes at) c.in-Count.is yields in
+    let found : Yields bytes at (Some c.in_ok-n.n) = subst (Yields bytes at) c.in_ok-n.was yields in
     omega (arith, found.1)
 
 pub low_at-requires : goal.low_at-requires
@@ -95,7 +94,7 @@ low_at-requires c =
       | else-bytes-place+then-bit_at-ne0 w ↦ subst (Yields bytes at) (sym w.zeros-is) (counted bytes at place c.loop-place.invariant w.if-bytes-place.false _ w.bit_at.ensures w.if-bit_at-ne0.true)
     ]
     in
-    let found : Yields bytes at (Count c.in-Count.n) = subst (Yields bytes at) c.in-Count.is yields in
+    let found : Yields bytes at (Some c.in_ok-n.n) = subst (Yields bytes at) c.in_ok-n.was yields in
     omega (arith, found.1)
 
 pub returns : goal.returns
@@ -109,5 +108,5 @@ returns c =
       | else-bytes-place+then-bit_at-ne0 w ↦ subst (Yields bytes at) (sym w.zeros-is) (counted bytes at place c.loop-place.invariant w.if-bytes-place.false _ w.bit_at.ensures w.if-bit_at-ne0.true)
     ]
     in
-    let found : Yields bytes at (Count c.in-Count.n) = subst (Yields bytes at) c.in-Count.is yields in
-    found_as read_gamma (read_low c.in-Count.n) bytes at (at + c.in-Count.n + 1) c.low_at.result (gamma_from _ _ _ found.0) c.low_at.ensures
+    let found : Yields bytes at (Some c.in_ok-n.n) = subst (Yields bytes at) c.in_ok-n.was yields in
+    found_as read_gamma (read_low c.in_ok-n.n) bytes at (at + c.in_ok-n.n + 1) c.low_at.result (gamma_from _ _ _ found.0) c.low_at.ensures

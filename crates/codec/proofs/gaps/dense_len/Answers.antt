@@ -7,7 +7,7 @@ use lib.ListN.{length, length-append}
 use Rattle.codec.specs.Codes.{delta}
 use Rattle.codec.specs.Inside.Gaps.{Gave}
 use Rattle.codec.proofs.Laws.Coded.{coding_start, coding_next, coding_end, gave_absent, gave_no_absent}
-use Rattle.codec.specs.declared.gaps.NextId.TheVariants.{Id}
+use Rattle.std.specs.Prelude.{Some}
 use Rattle.codec.proofs.gaps.dense_len.Goals as goal
 
 pub loop-n-init : goal.loop-n-init
@@ -30,7 +30,7 @@ returns-then-n-id c =
 -- the absent id of this turn
 gave : (c : goal.Else-n-id)
     → Gave true c.args.n c.args.ids.now (record { i = c.loop-n.i; from = c.loop-n.from })
-    (Id (c.loop-n.from + c.skip_present-k.result) (record { i = c.loop-n.i + c.skip_present-k.result; from = c.loop-n.from + c.skip_present-k.result + 1 }))
+    (Some (record { id = c.loop-n.from + c.skip_present-k.result; next = record { i = c.loop-n.i + c.skip_present-k.result; from = c.loop-n.from + c.skip_present-k.result + 1 } }))
 gave c =
     let a = c.args in
     gave_absent a.n a.ids.now (record { i = c.loop-n.i; from = c.loop-n.from }) c.skip_present-k.result c.skip_present-k.ensures.0 c.skip_present-k.ensures.1 c.if-n-id.false

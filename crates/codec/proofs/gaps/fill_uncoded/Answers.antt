@@ -24,37 +24,37 @@ pub returns-in_default : goal.returns-in_default
 returns-in_default c =
     left_there _ _ _ _ _ _ c.loop-i.invariant.4.5 c.loop-i-test.true c.requires.bytes_len_bound.1 c.in_default.ensures
 
-turn : (c : goal.In-Value)
-    → Turn c.args.n c.loop-i.i c.loop-i.from c.args.top c.in-Value.value
-    (drop c.in-Value.next (bits_of c.args.bytes.now)) c.loop-i.invariant.4.1
+turn : (c : goal.In-Some)
+    → Turn c.args.n c.loop-i.i c.loop-i.from c.args.top c.in-Some.field-0.value
+    (drop c.in-Some.field-0.next (bits_of c.args.bytes.now)) c.loop-i.invariant.4.1
 turn c =
-    left_turn _ _ _ _ _ _ c.loop-i.invariant.4.5 c.loop-i-test.true _ _ c.in-Value.ensures.0
+    left_turn _ _ _ _ _ _ c.loop-i.invariant.4.5 c.loop-i-test.true _ _ c.in-Some.ensures.0
 
 pub overflow_add-id : goal.overflow_add-id
 overflow_add-id c = omega (arith, (turn c).below)
 
 pub fill_numbers-k-requires : goal.fill_numbers-k-requires
 fill_numbers-k-requires c =
-    let turn : Turn c.args.n c.loop-i.i c.loop-i.from c.args.top c.in-Value.value
-    (drop c.in-Value.next (bits_of c.args.bytes.now)) c.loop-i.invariant.4.1 = left_turn _ _ _ _ _ _ c.loop-i.invariant.4.5 c.loop-i-test.true _ _ c.in-Value.ensures.0 in
-    let room : c.loop-i.from + c.in-Value.value + c.args.n ≤ c.args.top + c.loop-i.i = turn_room _ _ _ _ _ _ _ c.loop-i-test.true turn in
+    let turn : Turn c.args.n c.loop-i.i c.loop-i.from c.args.top c.in-Some.field-0.value
+    (drop c.in-Some.field-0.next (bits_of c.args.bytes.now)) c.loop-i.invariant.4.1 = left_turn _ _ _ _ _ _ c.loop-i.invariant.4.5 c.loop-i-test.true _ _ c.in-Some.ensures.0 in
+    let room : c.loop-i.from + c.in-Some.field-0.value + c.args.n ≤ c.args.top + c.loop-i.i = turn_room _ _ _ _ _ _ _ c.loop-i-test.true turn in
     (omega arith, omega (arith, room))
 
 pub overflow_add-from : goal.overflow_add-from
 overflow_add-from c =
-    let turn : Turn c.args.n c.loop-i.i c.loop-i.from c.args.top c.in-Value.value
-    (drop c.in-Value.next (bits_of c.args.bytes.now)) c.loop-i.invariant.4.1 = left_turn _ _ _ _ _ _ c.loop-i.invariant.4.5 c.loop-i-test.true _ _ c.in-Value.ensures.0 in
+    let turn : Turn c.args.n c.loop-i.i c.loop-i.from c.args.top c.in-Some.field-0.value
+    (drop c.in-Some.field-0.next (bits_of c.args.bytes.now)) c.loop-i.invariant.4.1 = left_turn _ _ _ _ _ _ c.loop-i.invariant.4.5 c.loop-i-test.true _ _ c.in-Some.ensures.0 in
     omega (arith, turn.below)
 
 pub loop-i-preserved : goal.loop-i-preserved
 loop-i-preserved c =
-    let turn : Turn c.args.n c.loop-i.i c.loop-i.from c.args.top c.in-Value.value
-    (drop c.in-Value.next (bits_of c.args.bytes.now)) c.loop-i.invariant.4.1 = left_turn _ _ _ _ _ _ c.loop-i.invariant.4.5 c.loop-i-test.true _ _ c.in-Value.ensures.0 in
-    let room : c.loop-i.from + c.in-Value.value + c.args.n ≤ c.args.top + c.loop-i.i = turn_room _ _ _ _ _ _ _ c.loop-i-test.true turn in
+    let turn : Turn c.args.n c.loop-i.i c.loop-i.from c.args.top c.in-Some.field-0.value
+    (drop c.in-Some.field-0.next (bits_of c.args.bytes.now)) c.loop-i.invariant.4.1 = left_turn _ _ _ _ _ _ c.loop-i.invariant.4.5 c.loop-i-test.true _ _ c.in-Some.ensures.0 in
+    let room : c.loop-i.from + c.in-Some.field-0.value + c.args.n ≤ c.args.top + c.loop-i.i = turn_room _ _ _ _ _ _ _ c.loop-i-test.true turn in
     let t = turn in
     let v = c.loop-i.invariant.4 in
     let old : List ℕ = c.args.out.now in
-    let id : ℕ = c.loop-i.from + c.in-Value.value in
+    let id : ℕ = c.loop-i.from + c.in-Some.field-0.value in
     let new : List ℕ = numbers c.loop-i.from (id - c.loop-i.from) in
     let n : length new ≡ id - c.loop-i.from = length_numbers (id - c.loop-i.from) c.loop-i.from in (
       omega arith,

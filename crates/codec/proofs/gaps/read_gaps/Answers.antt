@@ -21,30 +21,30 @@ loop-i-init c =
 pub next_delta-requires : goal.next_delta-requires
 next_delta-requires c = record { bytes_len_bound = search rules; window = c.last_word-last.ensures }
 
-pub returns-in_default : goal.returns-in_default
-returns-in_default c =
-    let e = stuck _ c.loop-i.invariant.4.0 c.args.n c.loop-i.i c.loop-i.from c.args.top _ c.loop-i-test.true c.loop-i.invariant.4.3 (gaps_refused _ _ _ _ c.in_default.ensures c.requires.top_bound) in
-    (e, put_refused _ _ _ e)
+pub returns-in_err-value : goal.returns-in_err-value
+returns-in_err-value c =
+    let e = stuck _ c.loop-i.invariant.4.0 c.args.n c.loop-i.i c.loop-i.from c.args.top _ c.loop-i-test.true c.loop-i.invariant.4.3 (gaps_refused _ _ _ _ c.in_err-value.ensures c.requires.top_bound) in
+    rw c.from_residual.ensures (e, put_refused _ _ _ e)
 
 pub returns-then-top-from : goal.returns-then-top-from
 returns-then-top-from c =
-    let e = stuck _ c.loop-i.invariant.4.0 c.args.n c.loop-i.i c.loop-i.from c.args.top _ c.loop-i-test.true c.loop-i.invariant.4.3 (gaps_high _ _ _ _ _ _ c.in-Value.ensures.0 (omega arith)) in
+    let e = stuck _ c.loop-i.invariant.4.0 c.args.n c.loop-i.i c.loop-i.from c.args.top _ c.loop-i-test.true c.loop-i.invariant.4.3 (gaps_high _ _ _ _ _ _ c.in_ok-value.ensures.0 (omega arith)) in
     (e, put_refused _ _ _ e)
 
 pub loop-i-preserved : goal.loop-i-preserved
 loop-i-preserved c =
     let v = c.loop-i.invariant.4 in
-    let id : ℕ = c.loop-i.from + c.in-Value.value in
+    let id : ℕ = c.loop-i.from + c.in_ok-value.field-0.value in
     let h : id < c.args.top = omega arith in (
       omega arith,
       omega arith,
-      c.in-Value.ensures.1,
+      c.in_ok-value.ensures.1,
       ap length c.put_id.ensures ∙ length-set c.loop-i.room c.loop-i.i id ∙ c.loop-i.invariant.3,
       (
         v.0 ++ (id ∷ []),
         length-append v.0 (id ∷ []) ∙ ap (λ (m : ℕ). m + 1) v.1,
         c.put_id.ensures ∙ ap (λ (o : List ℕ). set o c.loop-i.i id) v.2 ∙ put_set_lem v.0 c.args.room.now c.loop-i.i id v.1,
-        ahead _ v.0 c.args.n c.loop-i.i c.loop-i.from c.args.top _ c.loop-i-test.true v.3 c.in-Value.value _ c.in-Value.ensures.0 h,
+        ahead _ v.0 c.args.n c.loop-i.i c.loop-i.from c.args.top _ c.loop-i-test.true v.3 c.in_ok-value.field-0.value _ c.in_ok-value.ensures.0 h,
       ),
     )
 

@@ -30,36 +30,36 @@ returns-in_default c =
 pub next_delta-requires : goal.next_delta-requires
 next_delta-requires c = record { bytes_len_bound = search rules; window = c.last_word-last.ensures }
 
-pub returns-in_default-next_delta : goal.returns-in_default-next_delta
-returns-in_default-next_delta c = λ rest e.
+pub returns-in_err-value : goal.returns-in_err-value
+returns-in_err-value c = rw c.from_residual.ensures (λ rest e.
     let a = c.args in
-    let m = coding_read a.dense a.n a.ids.now c.loop-id.c c.loop-id.invariant.0 c.loop-id.invariant.1 c.in-Id.id c.in-Id.next c.in-Id.ensures _ _ rest c.loop-id.invariant.2 e in
-    omega (arith, c.in_default-next_delta.ensures _ _ m.1, c.in-Id.ensures.2)
+    let m = coding_read a.dense a.n a.ids.now c.loop-id.c c.loop-id.invariant.0 c.loop-id.invariant.1 c.in-Some.field-0.id c.in-Some.field-0.next c.in-Some.ensures _ _ rest c.loop-id.invariant.2 e in
+    omega (arith, c.in_err-value.ensures _ _ m.1, c.in-Some.ensures.2))
 
 pub overflow_sub-id : goal.overflow_sub-id
 overflow_sub-id c =
-    omega (arith, c.in-Id.ensures.1)
+    omega (arith, c.in-Some.ensures.1)
 
 pub returns-then-value-id : goal.returns-then-value-id
 returns-then-value-id c = λ rest e.
     let a = c.args in
-    let m = coding_read a.dense a.n a.ids.now c.loop-id.c c.loop-id.invariant.0 c.loop-id.invariant.1 c.in-Id.id c.in-Id.next c.in-Id.ensures _ _ rest c.loop-id.invariant.2 e in
-    let same : c.in-Value.value ≡ c.in-Id.id - c.loop-id.c.from = got_value (sym c.in-Value.ensures.0 ∙ m.1) in
+    let m = coding_read a.dense a.n a.ids.now c.loop-id.c c.loop-id.invariant.0 c.loop-id.invariant.1 c.in-Some.field-0.id c.in-Some.field-0.next c.in-Some.ensures _ _ rest c.loop-id.invariant.2 e in
+    let same : c.in_ok-value.field-0.value ≡ c.in-Some.field-0.id - c.loop-id.c.from = got_value (sym c.in_ok-value.ensures.0 ∙ m.1) in
     absurd (omega arith)
 
 pub loop-id-smaller : goal.loop-id-smaller
 loop-id-smaller c =
-    omega (arith, c.in-Id.ensures.1, c.in-Id.ensures.2, c.in-Id.ensures.3)
+    omega (arith, c.in-Some.ensures.1, c.in-Some.ensures.2, c.in-Some.ensures.3)
 
 pub loop-id-preserved : goal.loop-id-preserved
 loop-id-preserved c =
     let a = c.args in
-    let v : ℕ = c.in-Id.id - c.loop-id.c.from in
-    let behind : ℕ = c.in-Value.behind in
+    let v : ℕ = c.in-Some.field-0.id - c.loop-id.c.from in
+    let behind : ℕ = c.in_ok-value.field-0.next in
     let bits : List Bool = bits_of a.bytes.now in
-    let same : c.in-Value.value ≡ v = omega arith in (
+    let same : c.in_ok-value.field-0.value ≡ v = omega arith in (
       c.loop-id.invariant.0 ++ delta v,
-      coding_next a.dense a.n a.ids.now c.loop-id.c c.loop-id.invariant.0 c.loop-id.invariant.1 c.in-Id.id c.in-Id.next c.in-Id.ensures,
-      c.loop-id.invariant.2 ∙ ap (λ (x : List Bool). c.loop-id.invariant.0 ++ x) (delta_only v _ _ (c.in-Value.ensures.0 ∙ ap (λ (n : ℕ). got n (drop behind bits)) same)) ∙ sym (append_assoc c.loop-id.invariant.0 (delta v) (drop behind bits)),
-      c.in-Value.ensures.1,
+      coding_next a.dense a.n a.ids.now c.loop-id.c c.loop-id.invariant.0 c.loop-id.invariant.1 c.in-Some.field-0.id c.in-Some.field-0.next c.in-Some.ensures,
+      c.loop-id.invariant.2 ∙ ap (λ (x : List Bool). c.loop-id.invariant.0 ++ x) (delta_only v _ _ (c.in_ok-value.ensures.0 ∙ ap (λ (n : ℕ). got n (drop behind bits)) same)) ∙ sym (append_assoc c.loop-id.invariant.0 (delta v) (drop behind bits)),
+      c.in_ok-value.ensures.1,
     )

@@ -28,7 +28,7 @@ returns-in_default c =
 pub loop-i-preserved : goal.loop-i-preserved
 loop-i-preserved c =
     let bytes = c.args.bytes.now in
-    filling_more bytes c.args.count _ _ _ _ c.requires.1 c.loop-i.invariant c.loop-i-test.true _ c.in-Next.ensures
+    filling_more bytes c.args.count _ _ _ _ c.requires.1 c.loop-i.invariant c.loop-i-test.true _ c.in-Ok.ensures
 
 pub offset_bounds-out-count : goal.offset_bounds-out-count
 offset_bounds-out-count c = omega (arith, c.loop-i.invariant.size)

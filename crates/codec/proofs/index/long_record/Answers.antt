@@ -1,20 +1,20 @@
 -- `index::long_record` meets its contract: the prefix's answer says where the payload starts and how long it is.
-use mathlib.Core.Path.{sym, ap, ◌∙◌, subst}
 use native.Mathlib.Omega.{arith}
-use Rattle.codec.specs.Inside.Indexes.{SteppedAt, up_step}
-use Rattle.codec.specs.declared.prefix.Prefix.TheVariants.{Whole}
+use Rattle.std.proofs.lemmas.Result.{err_from_is_err_and}
+use mathlib.Core.List.{[], ◌∷◌}
+use Rattle.base.specs.Answers.{done}
 use Rattle.codec.proofs.Laws.Indexing.{Says, part_says, step_up, step_start_lem, step_cut, step_next}
 use Rattle.codec.proofs.index.long_record.Goals as goal
 
-said : (c : goal.In-Whole)
-    → Says c.args.bytes.now c.args.at (Whole c.in-Whole.value c.in-Whole.len)
+said : (c : goal.In_ok-value)
+    → Says c.args.bytes.now c.args.at (done (c.in_ok-value.field-0.value ∷ c.in_ok-value.field-0.len ∷ []))
 said c =
-    part_says c.args.bytes.now c.args.at c.read_varint_len-prefix.ensures c.in-Whole.is
+    part_says c.args.bytes.now c.args.at c.in_ok-value.ensures
 
-pub returns-in_default : goal.returns-in_default
-returns-in_default c =
-    subst (SteppedAt c.args.bytes.now c.args.at) (sym (c.passed_up.ensures ∙ ap up_step c.in_default.is))
-    (step_up _ _ c.requires c.in_default.field-0 (part_says c.args.bytes.now c.args.at c.read_varint_len-prefix.ensures c.in_default.is))
+pub returns-in_err-value : goal.returns-in_err-value
+returns-in_err-value c =
+    let p = err_from_is_err_and c.from_residual.result c.from_residual.ensures.1 in
+    rw (p.1, p.2) (step_up _ _ c.requires _ (part_says c.args.bytes.now c.args.at c.in_err-value.ensures))
 
 pub overflow_add-start : goal.overflow_add-start
 overflow_add-start c = omega (arith, step_start_lem _ _ c.requires _ _ (said c))
@@ -24,15 +24,15 @@ overflow_sub-bytes c = omega (arith, step_start_lem _ _ c.requires _ _ (said c))
 
 pub returns-then-bytes-start : goal.returns-then-bytes-start
 returns-then-bytes-start c =
-    let said : Says c.args.bytes.now c.args.at (Whole c.in-Whole.value c.in-Whole.len) = part_says c.args.bytes.now c.args.at c.read_varint_len-prefix.ensures c.in-Whole.is in
+    let said : Says c.args.bytes.now c.args.at (done (c.in_ok-value.field-0.value ∷ c.in_ok-value.field-0.len ∷ [])) = part_says c.args.bytes.now c.args.at c.in_ok-value.ensures in
     step_cut _ _ c.requires _ _ said (omega arith)
 
 pub overflow_add-result : goal.overflow_add-result
 overflow_add-result c =
-    let said : Says c.args.bytes.now c.args.at (Whole c.in-Whole.value c.in-Whole.len) = part_says c.args.bytes.now c.args.at c.read_varint_len-prefix.ensures c.in-Whole.is in
+    let said : Says c.args.bytes.now c.args.at (done (c.in_ok-value.field-0.value ∷ c.in_ok-value.field-0.len ∷ [])) = part_says c.args.bytes.now c.args.at c.in_ok-value.ensures in
     omega (arith, step_start_lem _ _ c.requires _ _ said)
 
 pub returns : goal.returns
 returns c =
-    let said : Says c.args.bytes.now c.args.at (Whole c.in-Whole.value c.in-Whole.len) = part_says c.args.bytes.now c.args.at c.read_varint_len-prefix.ensures c.in-Whole.is in
+    let said : Says c.args.bytes.now c.args.at (done (c.in_ok-value.field-0.value ∷ c.in_ok-value.field-0.len ∷ [])) = part_says c.args.bytes.now c.args.at c.in_ok-value.ensures in
     step_next _ _ c.requires _ _ said (omega arith)

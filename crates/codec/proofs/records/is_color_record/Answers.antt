@@ -1,11 +1,10 @@
 -- `codec::records::is_color_record` meets its contract.
-use Prim.Native.Nat.{ℕ, ◌+◌, ◌-◌, ◌^◌, ◌≤◌, ◌<◌}
+use Prim.Native.Nat.{ℕ, ◌+◌, ◌-◌}
 use mathlib.Core.Path.{◌≡◌, sym, ap, ◌∙◌}
 use mathlib.Core.Bool.{true, false}
 use native.Mathlib.Omega.{arith}
-use lib.ListN.{length, take, drop, length-take, length-drop}
+use lib.ListN.{take, drop, length-take, length-drop}
 use Rattle.base.proofs.Tests.{when_yes, when_no}
-use Rattle.codec.specs.Prefix.{whole, read_prefix, of_prefix}
 use Rattle.codec.specs.Sets.{within, decode_set}
 use Rattle.codec.specs.Inside.Payloads.{gives_set}
 use Rattle.codec.specs.Records.{bad_colors, is_record}
@@ -30,48 +29,40 @@ unfolding is_record
 returns-in_default c =
     let colors : bad_colors c.args.n ≡ false = sym c.bad_colors.ensures ∙ c.if-bad_colors.false in
     let a = c.args in
-    sym (when_no _ _ _ colors ∙ gives_refused a.n a.ids.now a.input.now c.in_default.field-0 (sym (ap of_prefix c.in_default.is) ∙ c.read_varint_len.ensures))
-
--- the payload's length, and the bytes behind its prefix
-prefixed : (c : goal.In-Whole)
-    → (read_prefix c.args.input.now ≡ whole c.in-Whole.value (drop c.in-Whole.len c.args.input.now))
-    × (c.in-Whole.len ≤ length c.args.input.now) × (c.in-Whole.value < 2 ^ 32)
-prefixed c =
-    let a = c.args in
-    prefix_behind a.input.now c.in-Whole.value c.in-Whole.len (sym (ap of_prefix c.in-Whole.is) ∙ c.read_varint_len.ensures)
+    sym (when_no _ _ _ colors ∙ gives_refused a.n a.ids.now a.input.now c.in_default.field-0 c.in_default.ensures)
 
 pub overflow_sub-input : goal.overflow_sub-input
-overflow_sub-input c = (prefixed c).1
+overflow_sub-input c = (prefix_behind c.args.input.now c.in-Ok.field-0.value c.in-Ok.field-0.len c.in-Ok.ensures).1
 
 pub returns-then-input-len : goal.returns-then-input-len
 unfolding is_record
 returns-then-input-len c =
-    let prefixed = prefix_behind c.args.input.now c.in-Whole.value c.in-Whole.len (sym (ap of_prefix c.in-Whole.is) ∙ c.read_varint_len.ensures) in
+    let prefixed = prefix_behind c.args.input.now c.in-Ok.field-0.value c.in-Ok.field-0.len c.in-Ok.ensures in
     let colors : bad_colors c.args.n ≡ false = sym c.bad_colors.ensures ∙ c.if-bad_colors.false in
     let a = c.args in
-    sym (when_no _ _ _ colors ∙ gives_cut a.n a.ids.now a.input.now c.in-Whole.value (drop c.in-Whole.len a.input.now) prefixed.0 (omega (arith, length-drop c.in-Whole.len a.input.now)))
+    sym (when_no _ _ _ colors ∙ gives_cut a.n a.ids.now a.input.now c.in-Ok.field-0.value (drop c.in-Ok.field-0.len a.input.now) prefixed.0 (omega (arith, length-drop c.in-Ok.field-0.len a.input.now)))
 
 pub slice_bounds-same_set-end : goal.slice_bounds-same_set-end
 slice_bounds-same_set-end c =
-    let prefixed = prefix_behind c.args.input.now c.in-Whole.value c.in-Whole.len (sym (ap of_prefix c.in-Whole.is) ∙ c.read_varint_len.ensures) in
+    let prefixed = prefix_behind c.args.input.now c.in-Ok.field-0.value c.in-Ok.field-0.len c.in-Ok.ensures in
     omega (arith, prefixed.1)
 
 pub same_set-requires : goal.same_set-requires
 same_set-requires c =
     let ascend : within 0 c.args.n c.args.ids.now ≡ true = sym c.is_ascending.ensures ∙ c.if-not-is_ascending.false in
     let colors : bad_colors c.args.n ≡ false = sym c.bad_colors.ensures ∙ c.if-bad_colors.false in
-    let prefixed = prefix_behind c.args.input.now c.in-Whole.value c.in-Whole.len (sym (ap of_prefix c.in-Whole.is) ∙ c.read_varint_len.ensures) in
+    let prefixed = prefix_behind c.args.input.now c.in-Ok.field-0.value c.in-Ok.field-0.len c.in-Ok.ensures in
     let a = c.args in
     (within_ids 0 a.n a.ids.now ascend, (good_colors a.n colors).1, simp length-take (omega (arith, prefixed.2)))
 
 pub returns : goal.returns
 unfolding is_record
 returns c =
-    let prefixed = prefix_behind c.args.input.now c.in-Whole.value c.in-Whole.len (sym (ap of_prefix c.in-Whole.is) ∙ c.read_varint_len.ensures) in
+    let prefixed = prefix_behind c.args.input.now c.in-Ok.field-0.value c.in-Ok.field-0.len c.in-Ok.ensures in
     let colors : bad_colors c.args.n ≡ false = sym c.bad_colors.ensures ∙ c.if-bad_colors.false in
     let a = c.args in
-    let v = c.in-Whole.value in
-    let len = c.in-Whole.len in
+    let v = c.in-Ok.field-0.value in
+    let len = c.in-Ok.field-0.len in
     let n : len + v - len ≡ v = omega arith in
     c.same_set.ensures ∙ ap (λ (m : ℕ). gives_set (decode_set a.n (take m (drop len a.input.now))) a.ids.now) n
     ∙ sym (when_no _ _ _ colors ∙ gives_payload a.n a.ids.now a.input.now v (drop len a.input.now) prefixed.0 (omega (arith, length-drop len a.input.now)))

@@ -14,13 +14,13 @@ returns-in_default c =
 pub returns-then-ids-count : goal.returns-then-ids-count
 returns-then-ids-count c =
     let there : c.args.value ≤ length c.args.input.now - c.args.len = omega arith in
-    payload_space c.args.n c.args.input.now c.args.value c.args.len c.args.ids.now (omega arith) there _ _ c.in-Ids.ensures.0 c.if-ids-count.true
+    payload_space c.args.n c.args.input.now c.args.value c.args.len c.args.ids.now (omega arith) there _ _ c.in-Some.ensures.0 c.if-ids-count.true
 
 pub decode_source_set-requires : goal.decode_source_set-requires
 decode_source_set-requires c =
-    record { payload_len_bound = (search rules, search rules, c.if-ids-count.false); payload_of = c.in-Ids.ensures }
+    record { payload_len_bound = (search rules, search rules, c.if-ids-count.false); payload_of = c.in-Some.ensures }
 
 pub returns : goal.returns
 returns c =
     let there : c.args.value ≤ length c.args.input.now - c.args.len = omega arith in
-    payload_done c.args.n c.args.input.now c.args.value c.args.len c.args.ids.now (omega arith) there _ _ c.in-Ids.ensures.0 _ c.if-ids-count.false c.decode_source_set.ensures
+    payload_done c.args.n c.args.input.now c.args.value c.args.len c.args.ids.now (omega arith) there _ _ c.in-Some.ensures.0 _ c.if-ids-count.false c.decode_source_set.ensures

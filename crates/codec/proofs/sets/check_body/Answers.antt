@@ -1,7 +1,7 @@
 -- `sets::check_body` meets its contract.
 use mathlib.Core.Path.{refl}
 use mathlib.Core.List.{[]}
-use Rattle.codec.specs.declared.gaps.Checked.TheVariants.{Good}
+use Rattle.std.specs.Prelude.{Some}
 use Rattle.codec.specs.declared.sets.Kind.TheVariants.{Empty, Sparse, Bitmap, Dense}
 use Rattle.codec.proofs.Laws.Decoding.{body_at, kept_at}
 use Rattle.codec.proofs.Laws.Gaps.{put_kept}
@@ -9,7 +9,7 @@ use Rattle.codec.proofs.sets.check_body.Goals as goal
 
 pub returns-in-Empty : goal.returns-in-Empty
 returns-in-Empty c = (
-  body_at c.args.n c.args.count c.args.payload.now c.args.at (Good c.args.at) _ Empty c.in-Empty.is c.kind_of.ensures (([], refl), c.requires.1),
+  body_at c.args.n c.args.count c.args.payload.now c.args.at (Some c.args.at) _ Empty c.in-Empty.is c.kind_of.ensures (([], refl), c.requires.1),
   kept_at c.args.n c.args.count _ _ _ Empty c.in-Empty.is c.kind_of.ensures tt,
 )
 

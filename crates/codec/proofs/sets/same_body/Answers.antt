@@ -3,7 +3,7 @@ use mathlib.Core.Path.{refl, subst}
 use mathlib.Core.Bool.{Bool}
 use mathlib.Core.List.{List}
 use Rattle.codec.specs.Inside.Gaps.{BitsAt}
-use Rattle.codec.specs.declared.gaps.Checked.TheVariants.{Good}
+use Rattle.std.specs.Prelude.{Some}
 use Rattle.codec.proofs.Laws.Encoded.{body_empty, body_sparse, body_bitmap, body_dense}
 use Rattle.codec.proofs.sets.same_body.Goals as goal
 
@@ -11,7 +11,7 @@ pub returns-in-Empty : goal.returns-in-Empty
 returns-in-Empty c =
     let a = c.args in
     let b = body_empty a.n a.ids.now c.kind_of.result c.kind_of.ensures c.in-Empty.is in
-    subst (λ (bits : List Bool). BitsAt bits a.payload.now a.at (Good a.at)) b (refl, c.requires.payload_len_bound.1)
+    subst (λ (bits : List Bool). BitsAt bits a.payload.now a.at (Some a.at)) b (refl, c.requires.payload_len_bound.1)
 
 pub returns-in-Sparse : goal.returns-in-Sparse
 returns-in-Sparse c =
