@@ -1,10 +1,10 @@
-pub mod Chosen
-pub mod Spans
+pub mod Commands
+pub mod Positions
 pub mod Fields
 pub mod Numbers
 pub mod Pairs
-pub mod Hexes
 pub mod Lists
+pub mod Hexes
 pub mod Digits
 pub mod Texts
 pub mod Back

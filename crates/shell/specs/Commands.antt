@@ -1,30 +1,31 @@
--- The words that are commands, as bytes.
-use Rattle.std.specs.Prelude.{ℕ, List, [], ◌∷◌}
-use Rattle.base.specs.Tests.{◌when◌else◌}
+-- The words that are commands.
+use Rattle.std.specs.Prelude.{ℕ, Bool, List, [], ◌∷◌, codes, Option, nat_eq}
+use Rattle.std.specs.Cmp.Lexicographic.{pointwise}
+use Rattle.std.specs.List.{find}
+use Rattle.std.specs.Option.{option_map}
 use Rattle.shell.specs.declared.commands.Command.{Command}
-use Rattle.shell.specs.declared.commands.Command.TheVariants.{Start, Add, Join, Close, Show, Records, Index, Unitigs, State, Encode, Decode, Help, Unknown}
-use Rattle.shell.specs.Fields.{same}
+use Rattle.shell.specs.declared.commands.Command.TheVariants.{Start, Add, Join, Close, Show, Records, Index, Unitigs, State, Encode, Decode, Help}
 
-unfoldable pub other_of : List ℕ → Command
-other_of w =
-    Start when same w (115 ∷ 116 ∷ 97 ∷ 114 ∷ 116 ∷ []) else
-    Encode when same w (101 ∷ 110 ∷ 99 ∷ 111 ∷ 100 ∷ 101 ∷ []) else
-    Decode when same w (100 ∷ 101 ∷ 99 ∷ 111 ∷ 100 ∷ 101 ∷ []) else
-    Help when same w (104 ∷ 101 ∷ 108 ∷ 112 ∷ []) else
-    Unknown
+-- two texts are the same
+abbrev pub same : List ℕ → List ℕ → Bool
+same = pointwise nat_eq
 
-unfoldable pub view_of : List ℕ → Command
-view_of w =
-    Records when same w (114 ∷ 101 ∷ 99 ∷ 111 ∷ 114 ∷ 100 ∷ 115 ∷ []) else
-    Index when same w (105 ∷ 110 ∷ 100 ∷ 101 ∷ 120 ∷ []) else
-    Unitigs when same w (117 ∷ 110 ∷ 105 ∷ 116 ∷ 105 ∷ 103 ∷ 115 ∷ []) else
-    State when same w (115 ∷ 116 ∷ 97 ∷ 116 ∷ 101 ∷ []) else
-    other_of w
+abbrev pub names : List (List ℕ × Command)
+names =
+    (codes "start", Start) ∷
+    (codes "add", Add) ∷
+    (codes "join", Join) ∷
+    (codes "close", Close) ∷
+    (codes "show", Show) ∷
+    (codes "records", Records) ∷
+    (codes "index", Index) ∷
+    (codes "unitigs", Unitigs) ∷
+    (codes "state", State) ∷
+    (codes "encode", Encode) ∷
+    (codes "decode", Decode) ∷
+    (codes "help", Help) ∷
+    []
 
-unfoldable pub command_of : List ℕ → Command
-command_of w =
-    Add when same w (97 ∷ 100 ∷ 100 ∷ []) else
-    Join when same w (106 ∷ 111 ∷ 105 ∷ 110 ∷ []) else
-    Close when same w (99 ∷ 108 ∷ 111 ∷ 115 ∷ 101 ∷ []) else
-    Show when same w (115 ∷ 104 ∷ 111 ∷ 119 ∷ []) else
-    view_of w
+-- the command that a word names
+unfoldable pub command_of : List ℕ → Option Command
+command_of w = option_map (λ p. p.1) (find (λ p. same w p.0) names)

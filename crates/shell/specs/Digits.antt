@@ -1,9 +1,13 @@
 -- A number as digits: '0' is 48, 'a' is 97.
-use Rattle.std.specs.Prelude.{ℕ, zero, suc, ◌+◌, ◌-◌, ◌/◌, ◌%◌, ◌^◌, ◌<◌, ◌≤◌, cond, List, [], ◌∷◌, ◌++◌, nat_lt}
+use Rattle.std.specs.Prelude.{ℕ, zero, suc, ◌+◌, ◌-◌, ◌/◌, ◌%◌, ◌^◌, ◌<◌, ◌≤◌, cond, List, [], ◌∷◌, ◌++◌, nat_lt, leb, Bool, ◌&&◌}
 
 -- the ASCII code of a digit below 16: `0` to `9`, then `a` to `f`
 abbrev pub hex_digit_ascii : ℕ → ℕ
 hex_digit_ascii d = cond (nat_lt d 10) (48 + d) (87 + d)
+
+-- one of the bytes from `low` to `high`
+abbrev pub between : ℕ → ℕ → ℕ → Bool
+between low b high = leb low b && leb b high
 
 -- the last k digits of n in base b, the most significant first
 abbrev pub last_digits : ℕ → ℕ → ℕ → List ℕ

@@ -1,24 +1,17 @@
 -- The words of a line.
-use Rattle.std.specs.Prelude.{ℕ, ◌+◌, Bool, true, false, ◌&&◌, List, [], ◌∷◌, drop, eqb, ltb}
-use Rattle.base.specs.Tests.{◌when◌else◌}
-use Rattle.shell.specs.declared.classes.Class.TheVariants.{Blank, Word}
+use Rattle.std.specs.Prelude.{ℕ, ◌+◌, Bool, not, ◌||◌, Option, List, drop, eqb}
+use Rattle.std.specs.List.{position, position_or_len}
+use Rattle.std.specs.Option.{option_map}
 use Rattle.shell.specs.declared.fields.Field.{Field}
-use Rattle.shell.specs.declared.fields.Field.TheVariants.{At, Nothing}
-use Rattle.shell.specs.Classes.{span}
 
--- a word from `start` on, unless the line ends there
-unfoldable pub word_at : List ℕ → ℕ → Field
-word_at line start =
-    At start (start + span Word (drop start line)) when ltb start (start + span Word (drop start line)) else
-    Nothing
+-- a space, a tab or a carriage return
+abbrev pub is_blank : ℕ → Bool
+is_blank b = eqb b 32 || eqb b 9 || eqb b 13
+
+-- a word from `start` on
+abbrev pub word_at : List ℕ → ℕ → Field
+word_at line start = record { start = start; end = start + position_or_len is_blank (drop start line) }
 
 -- the first word from `at` on: behind the blanks there
-unfoldable pub field_at : List ℕ → ℕ → Field
-field_at line at = word_at line (at + span Blank (drop at line))
-
--- two texts are the same
-unfoldable pub same : List ℕ → List ℕ → Bool
-same [] [] = true
-same [] (y ∷ ys) = false
-same (x ∷ xs) [] = false
-same (x ∷ xs) (y ∷ ys) = eqb x y && same xs ys
+unfoldable pub field_at : List ℕ → ℕ → Option Field
+field_at line at = option_map (λ n. word_at line (at + n)) (position (λ b. not (is_blank b)) (drop at line))

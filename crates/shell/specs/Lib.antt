@@ -1,9 +1,9 @@
-pub mod Classes
 pub mod Fields
 pub mod Numbers
 pub mod Pairs
 pub mod Hexes
 pub mod Lists
+pub mod Words
 pub mod Digits
 pub mod Texts
 pub mod Commands

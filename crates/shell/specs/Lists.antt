@@ -1,52 +1,48 @@
 -- Numbers and runs from a place of a line to its end.
-use Rattle.std.specs.Prelude.{ℕ, zero, suc, ◌+◌, ◌-◌, ◌%◌, List, length, take, drop, set, leb}
+use Rattle.std.specs.Prelude.{ℕ, zero, suc, ◌+◌, ◌-◌, List, length, take, drop, set, leb, Option, Some, None, Result, Ok, Err}
 use Rattle.base.specs.Tests.{◌when◌else◌}
 use Rattle.shell.specs.declared.fields.Field.{Field}
-use Rattle.shell.specs.declared.fields.Field.TheVariants as field
-use Rattle.shell.specs.declared.numbers.Number.{Number}
-use Rattle.shell.specs.declared.numbers.Number.TheVariants as number
+use Rattle.shell.specs.declared.numbers.NumberError.{NumberError}
 use Rattle.shell.specs.declared.reasons.Fault.{Fault}
-use Rattle.shell.specs.declared.reasons.Fault.TheVariants.{Digits, Pair, Large, Many}
+use Rattle.shell.specs.declared.reasons.Fault.TheVariants.{Digits, Pair, Many}
 use Rattle.shell.specs.declared.lists.Item.{Item}
-use Rattle.shell.specs.declared.lists.Item.TheVariants as item
-use Rattle.shell.specs.declared.lists.Listed.{Listed}
-use Rattle.shell.specs.declared.lists.Listed.TheVariants as listed
 use Rattle.shell.specs.Fields.{field_at}
-use Rattle.shell.specs.Numbers.{decimal_of}
+use Rattle.shell.specs.Numbers.{decimal_of, fault_of_number}
 use Rattle.shell.specs.Pairs.{pair_of}
 
-abbrev pub item_of : Number → ℕ → Fault → Item
-item_of (number.Value v) next bad = item.Value v next
-item_of number.Bad next bad = item.Wrong bad
-item_of number.Large next bad = item.Wrong Large
+-- a number, or what is wrong with the line
+abbrev pub or_fault : Fault → Result ℕ NumberError → Result ℕ Fault
+or_fault bad (Ok v) = Ok v
+or_fault bad (Err e) = Err (fault_of_number bad e)
 
--- what a word says
-abbrev pub word_of : (List ℕ → Number) → Fault → List ℕ → Field → Item
-word_of read bad line field.Nothing = item.Nothing
-word_of read bad line (field.At start end) = item_of (read (take (end - start) (drop start line))) end bad
+-- the number of 32 bits that a word says
+unfoldable pub id_of : List ℕ → Result ℕ Fault
+id_of word = or_fault Digits (decimal_of 4294967295 word)
 
--- the number of 32 bits that stands next
-unfoldable pub id_at : List ℕ → ℕ → Item
-id_at line at = word_of (decimal_of 4294967295) Digits line (field_at line at)
+-- the run that a word says
+unfoldable pub run_of : List ℕ → Result ℕ Fault
+run_of word = or_fault Pair (pair_of word)
 
--- the run that stands next
-unfoldable pub run_at : List ℕ → ℕ → Item
-run_at line at = word_of pair_of Pair line (field_at line at)
+abbrev pub item_of : {T : Type 0} → Result T Fault → ℕ → Result (Option (Item T)) Fault
+item_of (Ok v) next = Ok (Some (record { value = v; next = next }))
+item_of (Err f) next = Err f
 
--- one word: the end, a fault, or a value that `cut` makes fit an element of the output
-abbrev pub item_into : (ℕ → ℕ) → Item → ℕ → List ℕ → (ℕ → ℕ → List ℕ → Listed × List ℕ) → Listed × List ℕ
-item_into cut item.Nothing k out go = (listed.Done k, out)
-item_into cut (item.Wrong f) k out go = (listed.Wrong f, out)
-item_into cut (item.Value v next) k out go = (listed.Wrong Many, out) when leb (length out) k else go next (k + 1) (set out k (cut v))
+-- what a word says, if there is one
+abbrev pub word_of : {T : Type 0} → (List ℕ → Result T Fault) → List ℕ → Option Field → Result (Option (Item T)) Fault
+word_of said line None = Ok None
+word_of said line (Some f) = item_of (said (take (f.end - f.start) (drop f.start line))) f.end
 
--- at most `left` words, from place k of the output on
-unfoldable pub list_from : (ℕ → ℕ) → (List ℕ → ℕ → Item) → ℕ → List ℕ → ℕ → ℕ → List ℕ → Listed × List ℕ
-list_from cut read zero line at k out = (listed.Done k, out)
-list_from cut read (suc left) line at k out = item_into cut (read line at) k out (list_from cut read left line)
+-- what the word that stands next says
+unfoldable pub item_at : {T : Type 0} → (List ℕ → Result T Fault) → List ℕ → ℕ → Result (Option (Item T)) Fault
+item_at said line at = word_of said line (field_at line at)
 
--- a line has fewer words than bytes
-abbrev pub ids_from : ℕ → List ℕ → ℕ → ℕ → List ℕ → Listed × List ℕ
-ids_from left line at k out = list_from (λ (v : ℕ). v % 4294967296) id_at left line at k out
+-- one word: the end, a fault, or a value for the output
+abbrev pub item_into : {T : Type 0} → Result (Option (Item T)) Fault → ℕ → List T → (ℕ → ℕ → List T → Result ℕ Fault × List T) → Result ℕ Fault × List T
+item_into (Ok None) k out go = (Ok k, out)
+item_into (Err f) k out go = (Err f, out)
+item_into (Ok (Some i)) k out go = (Err Many, out) when leb (length out) k else go i.next (k + 1) (set out k i.value)
 
-abbrev pub runs_from : ℕ → List ℕ → ℕ → ℕ → List ℕ → Listed × List ℕ
-runs_from left line at k out = list_from (λ (v : ℕ). v) run_at left line at k out
+-- at most `left` words, from place k of the output on; a line has fewer words than bytes
+unfoldable pub list_from : {T : Type 0} → (List ℕ → Result T Fault) → ℕ → List ℕ → ℕ → ℕ → List T → Result ℕ Fault × List T
+list_from said zero line at k out = (Ok k, out)
+list_from said (suc left) line at k out = item_into (item_at said line at) k out (list_from said left line)

@@ -1,8 +1,8 @@
 // The first word of a line.
 ghost use Rattle.std.specs.Prelude.{◌≡◌};
-ghost use Rattle.shell.specs.Commands.{other_of, view_of, command_of};
+ghost use Rattle.shell.specs.Commands.{command_of};
 
-use crate::fields::same;
+use std::str;
 
 #[derive(Clone, Copy)]
 pub enum Command {
@@ -18,62 +18,33 @@ pub enum Command {
     Encode,
     Decode,
     Help,
-    Unknown,
 }
 
-// What needs no store.
-fn other_of(word: &[u8]) -> Command
-    ensures { result ≡ other_of word.now }
+// The command of a name.
+#[tactic(auto, using(crate::proofs::Laws::Commands::spelled), unfolding(crate::specs::Commands::command_of))]
+fn named(name: &str) -> Option<Command>
+    ensures { result ≡ command_of name.now }
 {
-    if same(word, b"start") {
-        return Command::Start;
+    match name {
+        "start" => Some(Command::Start),
+        "add" => Some(Command::Add),
+        "join" => Some(Command::Join),
+        "close" => Some(Command::Close),
+        "show" => Some(Command::Show),
+        "records" => Some(Command::Records),
+        "index" => Some(Command::Index),
+        "unitigs" => Some(Command::Unitigs),
+        "state" => Some(Command::State),
+        "encode" => Some(Command::Encode),
+        "decode" => Some(Command::Decode),
+        "help" => Some(Command::Help),
+        _ => None,
     }
-    if same(word, b"encode") {
-        return Command::Encode;
-    }
-    if same(word, b"decode") {
-        return Command::Decode;
-    }
-    if same(word, b"help") {
-        return Command::Help;
-    }
-    Command::Unknown
 }
 
-// What asks for what the store holds.
-fn view_of(word: &[u8]) -> Command
-    ensures { result ≡ view_of word.now }
-{
-    if same(word, b"records") {
-        return Command::Records;
-    }
-    if same(word, b"index") {
-        return Command::Index;
-    }
-    if same(word, b"unitigs") {
-        return Command::Unitigs;
-    }
-    if same(word, b"state") {
-        return Command::State;
-    }
-    other_of(word)
-}
-
-// The first word of a line.
-pub fn command_of(word: &[u8]) -> Command
+// The command that a word names.
+pub fn command_of(word: &[u8]) -> Option<Command>
     ensures { result ≡ command_of word.now }
 {
-    if same(word, b"add") {
-        return Command::Add;
-    }
-    if same(word, b"join") {
-        return Command::Join;
-    }
-    if same(word, b"close") {
-        return Command::Close;
-    }
-    if same(word, b"show") {
-        return Command::Show;
-    }
-    view_of(word)
+    named(str::from_utf8(word).ok()?)
 }

@@ -7,34 +7,25 @@ pub(crate) fn glyph(d: u8) -> u8
     requires { d < 16 }
     ensures { result ≡ hex_digit_ascii d }
 {
-    if d < 10 {
-        return 48 + d;
-    }
-    87 + d
+    if d < 10 { b'0' + d } else { b'a' - 10 + d }
 }
 
 // How many digits a number takes.
 fn digit_count(n: u64) -> usize
     ensures { IsDigitCount 10 1 n result }
 {
-    let mut k: usize = 1;
-    let mut rest = n / 10;
-    while rest > 0 {
-        rest /= 10;
-        k += 1;
+    match n.checked_ilog10() {
+        Some(power) => power as usize + 1,
+        None => 1,
     }
-    k
 }
 
-// The last k digits of a number, at the front of a buffer.
-fn write_digits(n: u64, k: usize, out: &mut [u8])
-    requires { k ≤ length out.old }
-    ensures { take k out.new ≡ last_digits 10 k n }
+// The last digits of a number, as many as a buffer holds.
+fn write_digits(n: u64, out: &mut [u8])
+    ensures { out.new ≡ last_digits 10 (length out.old) n }
 {
-    let mut i = k;
     let mut rest = n;
-    while i > 0 {
-        i -= 1;
+    for i in (0..out.len()).rev() {
         out[i] = glyph((rest % 10) as u8);
         rest /= 10;
     }
@@ -47,6 +38,6 @@ pub(crate) fn decimal(n: u64, out: &mut [u8; 20]) -> usize
     ensures digits { take result out.new ≡ last_digits 10 result n }
 {
     let k = digit_count(n);
-    write_digits(n, k, out);
+    write_digits(n, &mut out[..k]);
     k
 }

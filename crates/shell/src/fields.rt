@@ -1,59 +1,57 @@
-// The words of a line.
-ghost use Rattle.std.specs.Prelude.{◌≡◌, ◌-◌, take, drop};
-ghost use Rattle.shell.specs.Fields.{field_at, same};
+// The words of a line, and parts of a list.
+ghost use Rattle.std.specs.Prelude.{◌≡◌, ◌-◌, not, take, drop};
+ghost use Rattle.std.specs.List.{position};
+ghost use Rattle.shell.specs.Fields.{is_blank, field_at};
 
-use crate::classes;
-use crate::classes::Class;
-
-// The next word: from `start` up to `end`.
+// Where a word stands: from `start` up to `end`.
 #[derive(Clone, Copy)]
-pub enum Field {
-    At { start: usize, end: usize },
-    Nothing,
+pub struct Field {
+    pub start: usize,
+    pub end: usize,
 }
 
-// The bytes from `start` up to `end`, as far as there are any.
-pub fn part(text: &[u8], start: usize, end: usize) -> &[u8]
-    ensures { result.now ≡ take (end - start) (drop start text.now) }
+// A space, a tab or a carriage return.
+fn is_blank(b: u8) -> bool
+    ensures { result ≡ is_blank b }
 {
-    let len = text.len();
-    if len < start {
-        return &text[len..len];
-    }
-    if end < start {
-        return &text[start..start];
-    }
-    if len < end {
-        return &text[start..len];
-    }
-    &text[start..end]
+    b == b' ' || b == b'\t' || b == b'\r'
 }
 
-// The first word from `at` on.
-pub fn next_field(line: &[u8], at: usize) -> Field
+// The elements from `start` up to `end`, as far as there are any.
+pub fn part<T>(xs: &[T], start: usize, end: usize) -> &[T]
+    ensures { result.now ≡ take (end - start) (drop start xs.now) }
+{
+    let end = end.min(xs.len());
+    &xs[start.min(end)..end]
+}
+
+// The first `count` elements, or as many as there are.
+pub fn front<T>(xs: &[T], count: usize) -> &[T]
+    ensures { result.now ≡ take count xs.now }
+{
+    &xs[..count.min(xs.len())]
+}
+
+// Where the first byte stands that is no blank.
+fn word_start(text: &[u8]) -> Option<usize>
+    ensures { result ≡ position (λ b. not (is_blank b)) text.now }
+{
+    text.iter().position(|b| !is_blank(*b))
+}
+
+// Where the first blank stands.
+fn word_end(text: &[u8]) -> Option<usize>
+    ensures { result ≡ position is_blank text.now }
+{
+    text.iter().position(|b| is_blank(*b))
+}
+
+// The first word from `at` on: behind the blanks there.
+pub fn next_field(line: &[u8], at: usize) -> Option<Field>
     ensures { result ≡ field_at line.now at }
 {
-    let start = classes::span(line, at, Class::Blank);
-    let end = classes::span(line, start, Class::Word);
-    if start < end {
-        return Field::At { start, end };
-    }
-    Field::Nothing
-}
-
-// Whether two texts are the same.
-pub fn same(a: &[u8], b: &[u8]) -> bool
-    ensures { result ≡ same a.now b.now }
-{
-    if a.len() != b.len() {
-        return false;
-    }
-    let mut i: usize = 0;
-    while i < a.len() {
-        if a[i] != b[i] {
-            return false;
-        }
-        i += 1;
-    }
-    true
+    let start = at + word_start(line.get(at..)?)?;
+    let word = &line[start..];
+    let end = start + word_end(word).unwrap_or(word.len());
+    Some(Field { start, end })
 }

@@ -1,65 +1,46 @@
 // Bytes as hexadecimal digits, two a byte.
-ghost use Rattle.std.specs.Prelude.{◌≡◌};
+ghost use Rattle.std.specs.Prelude.{◌≡◌, ◌<◌, IfSome};
 ghost use Rattle.shell.specs.Hexes.{digit_of, unhex_at};
 
-#[derive(Clone, Copy)]
-pub enum Hexed {
-    Done(usize),
-    // Something that is no digit, or a digit left over.
-    Bad,
-    // More bytes than the output holds.
-    Many,
-}
+use crate::reasons::Fault;
 
-// What a digit says, or 16.
-fn digit_of(b: u8) -> u8
-    ensures { result ≡ digit_of b }
+// What a digit says.
+#[tactic(auto, using(std::proofs::lemmas::Bool::Decides::nat_tests), unfolding(crate::specs::Hexes::digit_of))]
+fn digit_of(b: u8) -> Option<u8>
+    ensures said { result ≡ digit_of b }
+    ensures within { IfSome result (λ d. d < 16) }
 {
-    if b < 48 {
-        return 16;
+    match b {
+        b'0'..=b'9' => Some(b - b'0'),
+        b'A'..=b'F' => Some(b - b'A' + 10),
+        b'a'..=b'f' => Some(b - b'a' + 10),
+        _ => None,
     }
-    if b <= 57 {
-        return b - 48;
-    }
-    if b < 65 {
-        return 16;
-    }
-    if b <= 70 {
-        return b - 55;
-    }
-    if b < 97 {
-        return 16;
-    }
-    if b <= 102 {
-        return b - 87;
-    }
-    16
 }
 
-// The bytes that a text says to the front of `out`.
-pub fn unhex(text: &[u8], out: &mut [u8]) -> Hexed
+// The bytes that a text says, to the front of `out`; answers how many they are.
+pub fn unhex(text: &[u8], out: &mut [u8]) -> Result<usize, Fault>
     ensures { (result, out.new) ≡ unhex_at text.now 0 out.old }
 {
-    let mut k: usize = 0;
-    let mut i: usize = 0;
-    while i < text.len() {
-        if text.len() - i < 2 {
-            return Hexed::Bad;
-        }
-        let high = digit_of(text[i]);
-        if 15 < high {
-            return Hexed::Bad;
-        }
-        let low = digit_of(text[i + 1]);
-        if 15 < low {
-            return Hexed::Bad;
-        }
+    let mut rest = text;
+    let mut k = 0;
+    while let [high, low, behind @ ..] = rest {
+        let Some(high) = digit_of(*high) else {
+            return Err(Fault::Hex);
+        };
+        let Some(low) = digit_of(*low) else {
+            return Err(Fault::Hex);
+        };
         if out.len() <= k {
-            return Hexed::Many;
+            return Err(Fault::Many);
         }
         out[k] = high * 16 + low;
         k += 1;
-        i += 2;
+        rest = behind;
     }
-    Hexed::Done(k)
+    if rest.is_empty() {
+        Ok(k)
+    } else {
+        Err(Fault::Hex)
+    }
 }

@@ -1,146 +1,80 @@
 // Numbers and runs from a place of a line to its end.
-ghost use Rattle.std.specs.Prelude.{◌≡◌, ◌%◌, length, take};
-ghost use Rattle.shell.specs.Lists.{item_of, id_at, run_at, ids_from, runs_from};
+ghost use Rattle.std.specs.Prelude.{◌≡◌, List, ℕ, Result, length};
+ghost use Rattle.shell.specs.declared.reasons.Fault.{Fault};
+ghost use Rattle.shell.specs.Lists.{id_of, run_of, item_at, list_from};
 
-use crate::fields::Field;
-use crate::numbers::Number;
+use crate::fields::{next_field, part};
+use crate::numbers::number_in;
+use crate::pairs::pair;
 use crate::reasons::Fault;
-use crate::{fields, numbers, pairs};
 
-// The next word of a line.
+// What a word of a line says.
+pub trait Word: Copy {
+    ghost said: { List ℕ → Result Self Fault };
+
+    fn read(word: &[u8]) -> Result<Self, Fault>
+        ensures { result ≡ said word.now };
+}
+
+// A number of 32 bits.
+impl Word for u32 {
+    ghost said = { id_of };
+
+    #[tactic(auto, unfolding(crate::specs::Lists::id_of))]
+    fn read(word: &[u8]) -> Result<u32, Fault> {
+        number_in(word).map_err(|e| e.fault(Fault::Digits))
+    }
+}
+
+// A run, which is one word of 64 bits.
+impl Word for u64 {
+    ghost said = { run_of };
+
+    #[tactic(auto, unfolding(crate::specs::Lists::run_of))]
+    fn read(word: &[u8]) -> Result<u64, Fault> {
+        pair(word).map_err(|e| e.fault(Fault::Pair))
+    }
+}
+
+// What a word says, and where it ends.
 #[derive(Clone, Copy)]
-pub enum Item {
-    Value { value: u64, next: usize },
-    Wrong(Fault),
-    Nothing,
+pub struct Item<T> {
+    pub value: T,
+    pub next: usize,
 }
 
-// What the words up to the end of a line gave.
-#[derive(Clone, Copy)]
-pub enum Listed {
-    Done(usize),
-    Wrong(Fault),
-}
-
-// A number, and where its word ends; what is wrong with it otherwise.
-fn item_of(n: Number, next: usize, bad: Fault) -> Item
-    ensures { result ≡ item_of n next bad }
+// What the next word says, if there is one.
+#[tactic(auto, unfolding(crate::specs::Lists::item_at))]
+pub fn item_at<T: Word>(line: &[u8], at: usize) -> Result<Option<Item<T>>, Fault>
+    ensures { result ≡ item_at T.said line.now at }
 {
-    match n {
-        Number::Value(value) => Item::Value { value, next },
-        Number::Bad => Item::Wrong(bad),
-        Number::Large => Item::Wrong(Fault::Large),
-    }
+    let Some(field) = next_field(line, at) else {
+        return Ok(None);
+    };
+    let value = T::read(part(line, field.start, field.end))?;
+    Ok(Some(Item {
+        value,
+        next: field.end,
+    }))
 }
 
-// The number of 32 bits that stands next.
-pub fn id_at(line: &[u8], at: usize) -> Item
-    ensures { result ≡ id_at line.now at }
-{
-    match fields::next_field(line, at) {
-        Field::Nothing => Item::Nothing,
-        Field::At { start, end } => item_of(
-            numbers::number_in(fields::part(line, start, end)),
-            end,
-            Fault::Digits,
-        ),
-    }
-}
-
-// The run that stands next.
-pub fn run_at(line: &[u8], at: usize) -> Item
-    ensures { result ≡ run_at line.now at }
-{
-    match fields::next_field(line, at) {
-        Field::Nothing => Item::Nothing,
-        Field::At { start, end } => item_of(
-            pairs::pair(fields::part(line, start, end)),
-            end,
-            Fault::Pair,
-        ),
-    }
-}
-
-// The first `count` of some numbers, or as many as there are.
-pub fn front(ids: &[u32], count: usize) -> &[u32]
-    ensures { result.now ≡ take count ids.now }
-{
-    if ids.len() < count {
-        return ids;
-    }
-    &ids[..count]
-}
-
-pub fn front_runs(runs: &[u64], count: usize) -> &[u64]
-    ensures { result.now ≡ take count runs.now }
-{
-    if runs.len() < count {
-        return runs;
-    }
-    &runs[..count]
-}
-
-// A number of 32 bits, cut where it has more.
-pub fn narrow(value: u64) -> u32
-    ensures { result ≡ value % 4294967296 }
-{
-    (value % 4294967296) as u32
-}
-
-// The numbers up to the end of the line to the front of `out`.
-pub fn ids_at(line: &[u8], from: usize, out: &mut [u32]) -> Listed
-    ensures { (result, out.new) ≡ ids_from (length line.now) line.now from 0 out.old }
+// What the words up to the end of the line say, to the front of `out`; answers how many there are.
+pub fn list_at<T: Word>(line: &[u8], from: usize, out: &mut [T]) -> Result<usize, Fault>
+    ensures { (result, out.new) ≡ list_from T.said (length line.now) line.now from 0 out.old }
 {
     let mut at = from;
-    let mut k: usize = 0;
-    let mut left = line.len();
-    while left > 0 {
-        match id_at(line, at) {
-            Item::Nothing => {
-                return Listed::Done(k);
-            }
-            Item::Wrong(fault) => {
-                return Listed::Wrong(fault);
-            }
-            Item::Value { value, next } => {
-                if out.len() <= k {
-                    return Listed::Wrong(Fault::Many);
-                }
-                out[k] = narrow(value);
-                k += 1;
-                at = next;
-            }
+    let mut k = 0;
+    // A line has no more words than bytes.
+    for _ in line {
+        let Some(item) = item_at(line, at)? else {
+            break;
+        };
+        if out.len() <= k {
+            return Err(Fault::Many);
         }
-        left -= 1;
+        out[k] = item.value;
+        k += 1;
+        at = item.next;
     }
-    Listed::Done(k)
-}
-
-// The runs up to the end of the line to the front of `out`.
-pub fn runs_at(line: &[u8], from: usize, out: &mut [u64]) -> Listed
-    ensures { (result, out.new) ≡ runs_from (length line.now) line.now from 0 out.old }
-{
-    let mut at = from;
-    let mut k: usize = 0;
-    let mut left = line.len();
-    while left > 0 {
-        match run_at(line, at) {
-            Item::Nothing => {
-                return Listed::Done(k);
-            }
-            Item::Wrong(fault) => {
-                return Listed::Wrong(fault);
-            }
-            Item::Value { value, next } => {
-                if out.len() <= k {
-                    return Listed::Wrong(Fault::Many);
-                }
-                out[k] = value;
-                k += 1;
-                at = next;
-            }
-        }
-        left -= 1;
-    }
-    Listed::Done(k)
+    Ok(k)
 }

@@ -1,53 +1,67 @@
 // Decimal numbers.
-ghost use Rattle.std.specs.Prelude.{◌≡◌, ◌≤◌};
-ghost use Rattle.shell.specs.Numbers.{decimal_of};
+ghost use Rattle.std.specs.Prelude.{◌≡◌, ◌<◌, ◌≤◌, IfOk, IfSome};
+ghost use Rattle.shell.specs.Numbers.{digit_of, decimal_of, fault_of_number};
 
-#[derive(Clone, Copy)]
-pub enum Number {
-    Value(u64),
+use crate::reasons::Fault;
+
+// Why a text is no number.
+#[derive(Clone, Copy, Debug, PartialEq, Eq)]
+pub enum NumberError {
     // No digits, or something else among them.
     Bad,
     // More than its type holds.
     Large,
 }
 
-fn wide(b: u8) -> u64
-    ensures { result ≡ b }
+impl NumberError {
+    // What is wrong with the line: `bad`, where the word is no number at all.
+    pub(crate) fn fault(self, bad: Fault) -> Fault
+        ensures { result ≡ fault_of_number bad self }
+    {
+        match self {
+            NumberError::Bad => bad,
+            NumberError::Large => Fault::Large,
+        }
+    }
+}
+
+// What a digit says.
+#[tactic(auto, using(std::proofs::lemmas::Bool::Decides::nat_tests), unfolding(crate::specs::Numbers::digit_of))]
+fn digit_of(b: u8) -> Option<u8>
+    ensures said { result ≡ digit_of b }
+    ensures within { IfSome result (λ d. d < 10) }
 {
-    b as u64
+    match b {
+        b'0'..=b'9' => Some(b - b'0'),
+        _ => None,
+    }
 }
 
 // The number that a text says, if it is at most `most`.
-pub(crate) fn number_to(text: &[u8], most: u64) -> Number
+pub(crate) fn number_to(text: &[u8], most: u64) -> Result<u64, NumberError>
     requires { most ≤ 1000000000000000000 }
-    ensures { result ≡ decimal_of most text.now }
+    ensures said { result ≡ decimal_of most text.now }
+    ensures within { IfOk result (λ n. n ≤ most) }
 {
-    if text.len() == 0 {
-        return Number::Bad;
+    if text.is_empty() {
+        return Err(NumberError::Bad);
     }
     let mut value: u64 = 0;
-    let mut i: usize = 0;
-    while i < text.len() {
-        let b = wide(text[i]);
-        if b < 48 {
-            return Number::Bad;
+    for b in text {
+        let Some(digit) = digit_of(*b) else {
+            return Err(NumberError::Bad);
+        };
+        value = value * 10 + u64::from(digit);
+        if most < value {
+            return Err(NumberError::Large);
         }
-        if 57 < b {
-            return Number::Bad;
-        }
-        let next = value * 10 + (b - 48);
-        if most < next {
-            return Number::Large;
-        }
-        value = next;
-        i += 1;
     }
-    Number::Value(value)
+    Ok(value)
 }
 
 // A number of 32 bits.
-pub fn number_in(text: &[u8]) -> Number
+pub fn number_in(text: &[u8]) -> Result<u32, NumberError>
     ensures { result ≡ decimal_of 4294967295 text.now }
 {
-    number_to(text, 4294967295)
+    Ok(number_to(text, 4294967295)? as u32)
 }

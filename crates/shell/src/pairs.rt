@@ -1,53 +1,24 @@
 // A run as OFFSET:COORDINATE, packed into one word: the low 24 bits the offset, the high 40 the coordinate.
-ghost use Rattle.std.specs.Prelude.{◌≡◌};
-ghost use Rattle.shell.specs.Pairs.{pack, packed, pair_of};
+ghost use Rattle.std.specs.Prelude.{◌≡◌, ◌==◌};
+ghost use Rattle.std.specs.List.{position};
+ghost use Rattle.shell.specs.Pairs.{pair_of};
 
-use crate::classes::Class;
-use crate::numbers::Number;
-use crate::{classes, fields, numbers};
+use crate::numbers::{NumberError, number_to};
 
-// The word of an offset and a coordinate, each within its bits.
-fn pack(low: u64, high: u64) -> Number
-    ensures { result ≡ pack low high }
+// Where the first ':' stands.
+fn colon_in(text: &[u8]) -> Option<usize>
+    ensures { result ≡ position (λ b. b == 58) text.now }
 {
-    if 16777215 < low {
-        return Number::Large;
-    }
-    if 1099511627775 < high {
-        return Number::Large;
-    }
-    Number::Value(low + 16777216 * high)
+    text.iter().position(|b| *b == b':')
 }
 
-fn packed_above(low: u64, coordinate: Number) -> Number
-    ensures { result ≡ packed (Number.Value low) coordinate }
-{
-    match coordinate {
-        Number::Value(high) => pack(low, high),
-        Number::Bad => Number::Bad,
-        Number::Large => Number::Large,
-    }
-}
-
-fn packed(offset: Number, coordinate: Number) -> Number
-    ensures { result ≡ packed offset coordinate }
-{
-    match offset {
-        Number::Value(low) => packed_above(low, coordinate),
-        Number::Bad => Number::Bad,
-        Number::Large => Number::Large,
-    }
-}
-
-pub fn pair(text: &[u8]) -> Number
+pub fn pair(text: &[u8]) -> Result<u64, NumberError>
     ensures { result ≡ pair_of text.now }
 {
-    let colon = classes::span(text, 0, Class::Half);
-    let len = text.len();
-    if len <= colon {
-        return Number::Bad;
-    }
-    let offset = numbers::number_to(fields::part(text, 0, colon), 16777215);
-    let coordinate = numbers::number_to(fields::part(text, colon + 1, len), 1099511627775);
-    packed(offset, coordinate)
+    let Some(colon) = colon_in(text) else {
+        return Err(NumberError::Bad);
+    };
+    let offset = number_to(&text[..colon], 0xff_ffff)?;
+    let coordinate = number_to(&text[colon + 1..], 0xff_ffff_ffff)?;
+    Ok(offset + 0x100_0000 * coordinate)
 }

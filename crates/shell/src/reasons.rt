@@ -7,7 +7,7 @@ use crate::texts::put;
 use base::Refusal;
 
 // What is wrong with a line that cannot be read.
-#[derive(Clone, Copy)]
+#[derive(Clone, Copy, Debug, PartialEq, Eq)]
 pub enum Fault {
     Unknown,
     Missing,
@@ -23,65 +23,59 @@ pub enum Fault {
     Unstarted,
 }
 
-// A refusal: its number, and its reason in words.
-pub fn put_reason(r: Refusal, at: usize, out: &mut [u8]) -> usize
-    ensures { (result, out.new) ≡ put_at (reason_of r) at out.old }
-{
-    match r {
-        Refusal::Colors => put(b"1 colour count or worker outside its limits", at, out),
-        Refusal::Ids => put(
-            b"2 ids not strictly ascending, or not below the colour count",
-            at,
-            out,
-        ),
-        Refusal::Space => put(b"3 not enough space", at, out),
-        Refusal::Cut => put(b"4 input ends too early", at, out),
-        Refusal::Damaged => put(b"5 not a written form", at, out),
-        Refusal::Runs => put(
-            b"6 runs do not start at 0, do not ascend, or reach the vertex count",
-            at,
-            out,
-        ),
-        Refusal::Vertices => put(b"7 vertex count outside its limits", at, out),
-        Refusal::Junction => put(
-            b"8 piece does not begin where the open unitig ends",
-            at,
-            out,
-        ),
-        Refusal::Coordinate => put(b"9 coordinate names no set of this store", at, out),
-        Refusal::Number => put(b"10 number is neither the last nor the next", at, out),
-        Refusal::Arguments => put(
-            b"11 last number with another call or other arguments",
-            at,
-            out,
-        ),
-        Refusal::Opened => put(b"12 a unitig is open", at, out),
-        Refusal::Unopened => put(b"13 no unitig is open", at, out),
-        Refusal::Place => put(b"14 no such closed unitig or vertex", at, out),
-        Refusal::Altered => put(b"15 state or buffers were altered", at, out),
+impl Fault {
+    // What is wrong, in words.
+    fn text(self) -> &'static [u8]
+        ensures { result.now ≡ fault_of self }
+    {
+        match self {
+            Fault::Unknown => b"unknown command (try help)",
+            Fault::Missing => b"words are missing",
+            Fault::Extra => b"more words than the command takes",
+            Fault::Digits => b"not a number",
+            Fault::Large => b"number too large",
+            Fault::Many => b"more items than the limit (see help)",
+            Fault::Pair => b"not OFFSET:COORDINATE",
+            Fault::Hex => b"not hexadecimal digits, two a byte",
+            Fault::Way => b"neither forward nor reverse, or neither line nor cycle",
+            Fault::Length => b"buffer length above the limit (see help)",
+            Fault::Long => b"line too long",
+            Fault::Unstarted => b"no store yet: start it first",
+        }
     }
 }
 
-// What is wrong with a line.
+// A refusal: its number, and its reason in words.
+fn reason(r: Refusal) -> &'static [u8]
+    ensures { result.now ≡ reason_of r }
+{
+    match r {
+        Refusal::Colors => b"1 colour count or worker outside its limits",
+        Refusal::Ids => b"2 ids not strictly ascending, or not below the colour count",
+        Refusal::Space => b"3 not enough space",
+        Refusal::Cut => b"4 input ends too early",
+        Refusal::Damaged => b"5 not a written form",
+        Refusal::Runs => b"6 runs do not start at 0, do not ascend, or reach the vertex count",
+        Refusal::Vertices => b"7 vertex count outside its limits",
+        Refusal::Junction => b"8 piece does not begin where the open unitig ends",
+        Refusal::Coordinate => b"9 coordinate names no set of this store",
+        Refusal::Number => b"10 number is neither the last nor the next",
+        Refusal::Arguments => b"11 last number with another call or other arguments",
+        Refusal::Opened => b"12 a unitig is open",
+        Refusal::Unopened => b"13 no unitig is open",
+        Refusal::Place => b"14 no such closed unitig or vertex",
+        Refusal::Altered => b"15 state or buffers were altered",
+    }
+}
+
+pub fn put_reason(r: Refusal, at: usize, out: &mut [u8]) -> usize
+    ensures { (result, out.new) ≡ put_at (reason_of r) at out.old }
+{
+    put(reason(r), at, out)
+}
+
 pub fn put_fault(f: Fault, at: usize, out: &mut [u8]) -> usize
     ensures { (result, out.new) ≡ put_at (fault_of f) at out.old }
 {
-    match f {
-        Fault::Unknown => put(b"unknown command (try help)", at, out),
-        Fault::Missing => put(b"words are missing", at, out),
-        Fault::Extra => put(b"more words than the command takes", at, out),
-        Fault::Digits => put(b"not a number", at, out),
-        Fault::Large => put(b"number too large", at, out),
-        Fault::Many => put(b"more items than the limit (see help)", at, out),
-        Fault::Pair => put(b"not OFFSET:COORDINATE", at, out),
-        Fault::Hex => put(b"not hexadecimal digits, two a byte", at, out),
-        Fault::Way => put(
-            b"neither forward nor reverse, or neither line nor cycle",
-            at,
-            out,
-        ),
-        Fault::Length => put(b"buffer length above the limit (see help)", at, out),
-        Fault::Long => put(b"line too long", at, out),
-        Fault::Unstarted => put(b"no store yet: start it first", at, out),
-    }
+    put(f.text(), at, out)
 }

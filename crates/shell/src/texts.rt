@@ -10,14 +10,12 @@ pub fn put(text: &[u8], at: usize, out: &mut [u8]) -> usize
     ensures { (result, out.new) ≡ put_at text.now at out.old }
 {
     let mut to = at;
-    let mut i: usize = 0;
-    while i < text.len() {
+    for b in text {
         if out.len() <= to {
-            return to;
+            break;
         }
-        out[to] = text[i];
+        out[to] = *b;
         to += 1;
-        i += 1;
     }
     to
 }
@@ -35,6 +33,5 @@ pub fn put_decimal(n: u64, at: usize, out: &mut [u8]) -> usize
 pub fn put_byte(b: u8, at: usize, out: &mut [u8]) -> usize
     ensures { (result, out.new) ≡ put_at (hex_digit_ascii (b / 16) ∷ hex_digit_ascii (b % 16) ∷ []) at out.old }
 {
-    let digits = [glyph(b / 16), glyph(b % 16)];
-    put(&digits, at, out)
+    put(&[glyph(b / 16), glyph(b % 16)], at, out)
 }

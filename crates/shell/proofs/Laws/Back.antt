@@ -1,37 +1,34 @@
 -- What was printed reads back: a number from its decimal digits, bytes from their hexadecimal ones.
 use Prim.Native.Nat.{ℕ, zero, suc, ◌+◌, ◌-◌, ◌*◌, ◌/◌, ◌%◌, ◌^◌, ◌≤◌, ◌<◌}
-use mathlib.Core.Path.{◌≡◌, refl, sym, ap, ap₂, ◌∙◌}
-use mathlib.Core.Bool.{Bool, true, false}
+use mathlib.Core.Path.{◌≡◌, sym, ap, ap₂, ◌∙◌}
+use mathlib.Core.Bool.{false}
+use Rattle.std.specs.Prelude.{◌==◌}
 use mathlib.Core.List.{List, [], ◌∷◌, ◌++◌, append_assoc, append-nil}
 use native.Mathlib.Omega.{arith}
 use native.Mathlib.Nat.{pow-suc, add-zero, zero-add}
 use lib.ListN.{length, take, drop, get_or, set, length-append, length-drop, take-append-drop}
 use lib.Seq.{drop_at, take-append_seam, set-append_seam, length-take-le}
-use lib.Dec.{leb, ltb}
-use borrow.Author.Tests.{le-ltb, le-leb, lt-leb, ltb-true, ltb-false}
-use Rattle.base.specs.Tests.{◌when◌else◌}
+use borrow.Author.Tests.{le-ltb, lt-leb, ne_eqb}
+use Rattle.std.proofs.lemmas.Bool.Decides.{nat_tests}
 use Rattle.base.specs.Parts.{over}
-use Rattle.base.proofs.Tests.{when_yes, when_no}
+use Rattle.base.proofs.Tests.{when_no}
 use Rattle.shell.specs.Digits.{last_digits, IsDigitCount, hex_digit_ascii}
-use Rattle.shell.specs.declared.numbers.Number.TheVariants.{Value, Large}
-use Rattle.shell.specs.declared.hexes.Hexed.TheVariants.{Done, Bad, Many}
-use Rattle.shell.specs.Numbers.{number_from, decimal_of}
-use Rattle.shell.specs.Hexes.{digit_of, unhex_at, hex_of}
+use Rattle.std.specs.Prelude.{Option, Some, Ok}
+use Rattle.shell.specs.Numbers.{digit_of as decimal_digit, digit_into, number_from, decimal_of}
+use Rattle.shell.specs.Hexes.{digit_of, byte_into, unhex_at, hex_of}
 use Rattle.shell.specs.Texts.{put_at, Printed}
 use Rattle.shell.proofs.Laws.Numbers.{number_start, from_none, from_cons}
 use Rattle.shell.proofs.Laws.Hexes as hexes
 use Rattle.shell.proofs.Laws.Texts as texts
 
 -- Decimal: one digit more.
+digit_said : (d : ℕ) → d < 10 → decimal_digit (hex_digit_ascii d) ≡ Some d
+unfolding decimal_digit
+digit_said d h = grind (arith, nat_tests)
+
 one_digit : (most v d : ℕ) (rest : List ℕ) → d < 10 → v * 10 + d ≤ most → number_from most v (hex_digit_ascii d ∷ rest) ≡ number_from most (v * 10 + d) rest
 one_digit most v d rest h l =
-    let low : 48 ≤ 48 + d = omega arith in
-    let high : 48 + d ≤ 57 = omega arith in
-    let back : 48 + d - 48 ≡ d = omega arith in
-    ap (λ (g : ℕ). number_from most v (g ∷ rest)) (sym (texts.glyph_low d h)) ∙ from_cons most v (48 + d) rest
-    ∙ when_no _ _ _ (le-ltb _ _ low) ∙ when_no _ _ _ (le-ltb _ _ high)
-    ∙ ap (λ (c : ℕ). Large when ltb most (v * 10 + c) else number_from most (v * 10 + c) rest) back
-    ∙ when_no _ _ _ (le-ltb _ _ l)
+    from_cons most v (hex_digit_ascii d) rest ∙ ap (λ r. digit_into most v r (λ w. number_from most w rest)) (digit_said d h) ∙ when_no _ _ _ (le-ltb _ _ l)
 
 all_digits : (most k n : ℕ) (rest : List ℕ) → n ≤ most → n < 10 ^ k → number_from most 0 (last_digits 10 k n ++ rest) ≡ number_from most n rest
 all_digits most zero n rest l h =
@@ -48,11 +45,14 @@ all_digits most (suc k) n rest l h =
     ∙ all_digits most k (n / 10) (hex_digit_ascii (n % 10) ∷ rest) a b ∙ one_digit most (n / 10) (n % 10) rest c d
     ∙ ap (λ (m : ℕ). number_from most m rest) e
 
+some : (xs : List ℕ) (x : ℕ) → false ≡ (length (xs ++ (x ∷ [])) == 0)
+some xs x = sym (ne_eqb _ _ (λ e. omega (arith, length-append xs (x ∷ []))))
+
 -- The law: the digits of a number say the number, where it is at most `most`.
-pub number_back : (most k n : ℕ) → n ≤ most → IsDigitCount 10 1 n k → decimal_of most (last_digits 10 k n) ≡ Value n
+pub number_back : (most k n : ℕ) → n ≤ most → IsDigitCount 10 1 n k → decimal_of most (last_digits 10 k n) ≡ Ok n
 number_back most zero n l f = absurd (omega (arith, f.0))
 number_back most (suc k) n l f =
-    number_start most (last_digits 10 (suc k) n) (λ e. omega (arith, e, length-append (last_digits 10 k (n / 10)) (hex_digit_ascii (n % 10) ∷ [])))
+    number_start most (last_digits 10 (suc k) n) (some (last_digits 10 k (n / 10)) (hex_digit_ascii (n % 10)))
     ∙ ap (number_from most 0) (sym (append-nil (last_digits 10 (suc k) n)))
     ∙ all_digits most (suc k) n [] l f.1 ∙ from_none most n
 
@@ -84,33 +84,14 @@ put_back xs at out h end after e =
     ∙ take-append_seam xs (drop (length xs) (drop at out))
 
 -- The same of memory: where the print found its space, reading what it wrote gives the number.
-pub printed_back : (most n at : ℕ) (before : List ℕ) (end : ℕ) (after : List ℕ) (p : Printed n at before end after) → n ≤ most → at + length (last_digits 10 p.count n) ≤ length before → decimal_of most (take (end - at) (drop at after)) ≡ Value n
+pub printed_back : (most n at : ℕ) (before : List ℕ) (end : ℕ) (after : List ℕ) (p : Printed n at before end after) → n ≤ most → at + length (last_digits 10 p.count n) ≤ length before → decimal_of most (take (end - at) (drop at after)) ≡ Ok n
 printed_back most n at before end after p l h =
     ap (decimal_of most) (put_back (last_digits 10 p.count n) at before h end after p.text) ∙ number_back most p.count n l p.fewest
 
 -- Hexadecimal: one digit.
-digit_back : (d : ℕ) → d < 16 → digit_of (hex_digit_ascii d) ≡ d
+digit_back : (d : ℕ) → d < 16 → digit_of (hex_digit_ascii d) ≡ Some d
 unfolding digit_of
-digit_back d h = by_size (ltb d 10) refl
-  where
-    by_size : (t : Bool) → ltb d 10 ≡ t → digit_of (hex_digit_ascii d) ≡ d
-    by_size true e =
-        let m : d < 10 = ltb-true d 10 e in
-        let a : 48 ≤ 48 + d = omega arith in
-        let b : 48 + d ≤ 57 = omega arith in
-        let k : 48 + d - 48 ≡ d = omega arith in
-        ap digit_of (sym (texts.glyph_low d m)) ∙ when_no _ _ _ (le-ltb _ _ a) ∙ when_yes _ _ _ (le-leb _ _ b) ∙ k
-    by_size false e =
-        let m : 10 ≤ d = ltb-false d 10 e in
-        let a : 48 ≤ 87 + d = omega arith in
-        let b : 57 < 87 + d = omega arith in
-        let c : 65 ≤ 87 + d = omega arith in
-        let f : 70 < 87 + d = omega arith in
-        let g : 97 ≤ 87 + d = omega arith in
-        let i : 87 + d ≤ 102 = omega arith in
-        let k : 87 + d - 87 ≡ d = omega arith in
-        ap digit_of (sym (texts.glyph_high d m)) ∙ when_no _ _ _ (le-ltb _ _ a) ∙ when_no _ _ _ (lt-leb _ _ b) ∙ when_no _ _ _ (le-ltb _ _ c)
-        ∙ when_no _ _ _ (lt-leb _ _ f) ∙ when_no _ _ _ (le-ltb _ _ g) ∙ when_yes _ _ _ (le-leb _ _ i) ∙ k
+digit_back d h = grind (arith, nat_tests)
 
 -- One byte: two digits put it at its place.
 byte_back : (b k : ℕ) (rest out : List ℕ) → b < 256 → k < length out → unhex_at (hex_digit_ascii (b / 16) ∷ hex_digit_ascii (b % 16) ∷ rest) k out ≡ unhex_at rest (k + 1) (set out k b)
@@ -118,16 +99,14 @@ byte_back b k rest out h f =
     let p : b / 16 < 16 = omega arith in
     let q : b % 16 < 16 = omega arith in
     let e : b / 16 * 16 + b % 16 ≡ b = omega arith in
-    let u : b / 16 ≤ 15 = omega arith in
-    let v : b % 16 ≤ 15 = omega arith in
     hexes.double (hex_digit_ascii (b / 16)) (hex_digit_ascii (b % 16)) rest k out
-    ∙ ap₂ (λ (x y : ℕ). (Bad, out) when ltb 15 x else (Bad, out) when ltb 15 y else (Many, out) when leb (length out) k else unhex_at rest (k + 1) (set out k (x * 16 + y))) (digit_back (b / 16) p) (digit_back (b % 16) q)
-    ∙ when_no _ _ _ (le-ltb _ _ u) ∙ when_no _ _ _ (le-ltb _ _ v) ∙ when_no _ _ _ (lt-leb _ _ f)
+    ∙ ap₂ (λ (x y : Option ℕ). byte_into x y k out (unhex_at rest)) (digit_back (b / 16) p) (digit_back (b % 16) q)
+    ∙ when_no _ _ _ (lt-leb _ _ f)
     ∙ ap (λ (x : ℕ). unhex_at rest (k + 1) (set out k x)) e
 
-hex_in : (done bs old : List ℕ) → ((i : ℕ) → i < length bs → get_or bs i 0 < 256) → length bs ≤ length old → unhex_at (hex_of bs) (length done) (done ++ old) ≡ (Done (length done + length bs), done ++ over bs old)
+hex_in : (done bs old : List ℕ) → ((i : ℕ) → i < length bs → get_or bs i 0 < 256) → length bs ≤ length old → unhex_at (hex_of bs) (length done) (done ++ old) ≡ (Ok (length done + length bs), done ++ over bs old)
 unfolding over hex_of
-hex_in done [] old w h = hexes.none _ _ ∙ ap (λ (n : ℕ). (Done n, done ++ old)) (sym (add-zero (length done)))
+hex_in done [] old w h = hexes.none _ _ ∙ ap (λ (n : ℕ). (Ok n, done ++ old)) (sym (add-zero (length done)))
 hex_in done (b ∷ bs) [] w h = absurd (omega arith)
 hex_in done (b ∷ bs) (o ∷ os) w h =
     let fits : length done < length (done ++ (o ∷ os)) = simp length-append (omega arith) in
@@ -137,8 +116,8 @@ hex_in done (b ∷ bs) (o ∷ os) w h =
     byte_back b (length done) (hex_of bs) (done ++ (o ∷ os)) (w 0 (omega arith)) fits
     ∙ ap₂ (λ (at : ℕ) (out : List ℕ). unhex_at (hex_of bs) at out) place (set-append_seam done o os b ∙ sym (append_assoc done (b ∷ []) os))
     ∙ hex_in (done ++ (b ∷ [])) bs os (λ i l. w (suc i) (omega arith)) rest
-    ∙ ap₂ (λ (n : ℕ) (l : List ℕ). (Done n, l)) end (append_assoc done (b ∷ []) (over bs os))
+    ∙ ap₂ (λ (n : ℕ) (l : List ℕ). (Ok n, l)) end (append_assoc done (b ∷ []) (over bs os))
 
 -- The law: the digits of some bytes say the bytes, where the output has space for them.
-pub hex_back : (bs out : List ℕ) → ((i : ℕ) → i < length bs → get_or bs i 0 < 256) → length bs ≤ length out → unhex_at (hex_of bs) 0 out ≡ (Done (length bs), over bs out)
-hex_back bs out w h = hex_in [] bs out w h ∙ ap (λ (n : ℕ). (Done n, over bs out)) (zero-add (length bs))
+pub hex_back : (bs out : List ℕ) → ((i : ℕ) → i < length bs → get_or bs i 0 < 256) → length bs ≤ length out → unhex_at (hex_of bs) 0 out ≡ (Ok (length bs), over bs out)
+hex_back bs out w h = hex_in [] bs out w h ∙ ap (λ (n : ℕ). (Ok n, over bs out)) (zero-add (length bs))

@@ -1,32 +1,13 @@
 -- A number as decimal digits: powers of ten, and one turn of the loop that writes.
-use Prim.Native.Nat.{ℕ, zero, suc, ◌+◌, ◌-◌, ◌*◌, ◌/◌, ◌%◌, ◌^◌, ◌≤◌, ◌<◌}
+use Prim.Native.Nat.{ℕ, zero, suc, ◌-◌, ◌/◌, ◌%◌, ◌^◌, ◌≤◌, ◌<◌}
 use mathlib.Core.Path.{◌≡◌, refl, sym, ap, subst, ◌∙◌}
-use mathlib.Core.List.{List, [], ◌∷◌, ◌++◌}
+use mathlib.Core.List.{List, [], ◌∷◌, ◌++◌, append-nil}
 use native.Mathlib.Omega.{arith}
-use native.Mathlib.Nat.{le_of_suc-le-suc, not-suc-le-zero, one-mul, pow-zero, pow-suc, one-le-pow, pow-le-pow_right, div-div-eq-div-mul, le-div_iff_mul-le, div-lt_iff_lt-mul, lt_of_not-le}
-use native.Mathlib.Numerals.{add-one, sub-one}
+use native.Mathlib.Nat.{le_of_suc-le-suc, not-suc-le-zero, pow-le-pow_right, lt_of_not-le}
+use native.Mathlib.Numerals.{sub-one}
 use lib.ListN.{length, take, drop, set}
-use lib.Seq.{slice, length-take-le, take-set-lt, append_snoc}
+use lib.Seq.{slice, slice_empty, take_all, length-take-le, take-set-lt, append_snoc}
 use Rattle.shell.specs.Digits.{hex_digit_ascii, last_digits, IsDigitCount}
-
-pub div_ten : (n : ℕ) → n / 10 ≡ n / 10 ^ 1
-div_ten n = ap (λ (d : ℕ). n / d) (sym (pow-suc 10 0 ∙ ap (λ (p : ℕ). p * 10) (pow-zero 10) ∙ one-mul 10))
-
-pub div_next : (n k : ℕ) → n / 10 ^ k / 10 ≡ n / 10 ^ (k + 1)
-div_next n k = div-div-eq-div-mul n (10 ^ k) 10 ∙ ap (λ (d : ℕ). n / d) (sym (pow-suc 10 k) ∙ ap (λ (j : ℕ). 10 ^ j) (sym (add-one k)))
-
--- Something is left behind k digits: one more is needed.
-pub more_digits : (n k : ℕ) → 0 < n / 10 ^ k → 10 ^ (k + 1 - 1) ≤ n
-more_digits n k some =
-    let e : k ≡ k + 1 - 1 = omega arith in
-    let p : 1 * 10 ^ k ≤ n = (le-div_iff_mul-le (one-le-pow k 10 (omega arith))).0 some in
-    subst (λ (j : ℕ). 10 ^ j ≤ n) e (omega arith)
-
--- Nothing is left: k digits are enough.
-pub enough_digits : (n k : ℕ) → n / 10 ^ k < 1 → n < 10 ^ k
-enough_digits n k none =
-    let p : n < 1 * 10 ^ k = (div-lt_iff_lt-mul (one-le-pow k 10 (omega arith))).0 none in
-    omega arith
 
 too_many : (n k most : ℕ) → IsDigitCount 10 1 n k → n < 10 ^ most → 1 ≤ most → most < k → ⊥
 too_many n k most fewest holds some over =
@@ -56,3 +37,10 @@ digit_step (suc j) k rest g out some h room e =
     ∙ ap (λ (l : List ℕ). todo ++ l) (drop_set (take k out) j g within)
     ∙ ap (λ (x : ℕ). todo ++ x ∷ done) e
     ∙ sym (append_snoc todo (hex_digit_ascii (rest % 10)) done)
+
+pub digits_begin : (n : ℕ) (out : List ℕ) → last_digits 10 (length out) n ++ slice (length out) (length out) out ≡ last_digits 10 (length out) n
+digits_begin n out = ap (λ (l : List ℕ). last_digits 10 (length out) n ++ l) (slice_empty (length out) out) ∙ append-nil (last_digits 10 (length out) n)
+
+pub digits_end : (n i rest k : ℕ) (out : List ℕ) → i ≤ 0 → length out ≡ k → last_digits 10 i rest ++ slice i k out ≡ last_digits 10 k n → out ≡ last_digits 10 k n
+digits_end n zero rest k out h l e = let all : length out ≤ k = omega arith in sym (take_all k out all) ∙ e
+digits_end n (suc i) rest k out h l e = absurd (omega arith)

@@ -1,18 +1,15 @@
 -- Text behind text: one turn of the loop over the bytes.
-use Prim.Native.Nat.{ℕ, ◌+◌, ◌/◌, ◌%◌, ◌≤◌, ◌<◌}
-use mathlib.Core.Path.{◌≡◌, refl, sym, ap, ap₂, ◌∙◌}
+use Prim.Native.Nat.{ℕ, ◌+◌, ◌≤◌, ◌<◌}
+use mathlib.Core.Path.{◌≡◌, refl, sym, ap, ◌∙◌}
 use mathlib.Core.List.{List, [], ◌∷◌}
 use native.Mathlib.Numerals.{add-one}
 use lib.ListN.{length, take, drop, get_or, set, drop_of_length-le}
 use lib.Seq.{drop-cons}
 use lib.Dec.{leb}
-use borrow.Author.Tests.{le-leb, lt-leb, lt-ltb, le-ltb}
+use borrow.Author.Tests.{le-leb, lt-leb}
 use Rattle.base.specs.Tests.{◌when◌else◌}
 use Rattle.base.proofs.Tests.{when_yes, when_no}
-use Rattle.base.specs.declared.Refusal.{Refusal}
-use Rattle.shell.specs.Digits.{last_digits, IsDigitCount, hex_digit_ascii}
-use Rattle.shell.specs.declared.reasons.Fault.{Fault}
-use Rattle.shell.specs.Reasons.{reason_of, fault_of}
+use Rattle.shell.specs.Digits.{last_digits, IsDigitCount}
 use Rattle.shell.specs.Texts.{put_at, Printed}
 
 pub none : (at : ℕ) (out : List ℕ) → put_at [] at out ≡ (at, out)
@@ -39,20 +36,5 @@ module _ (xs : List ℕ) (at : ℕ) (from : List ℕ) (i to : ℕ) (out : List �
   pub put_end : length xs ≤ i → ◌≡◌ {A = ℕ × List ℕ} (to, out) (put_at xs at from)
   put_end h = sym (k ∙ ap (λ (l : List ℕ). put_at l to out) (drop_of_length-le xs h) ∙ none to out)
 
-pub put_reason_lem : (r q : Refusal) (x : ℕ × List ℕ) (at : ℕ) (out : List ℕ) → r ≡ q → x ≡ put_at (reason_of q) at out → x ≡ put_at (reason_of r) at out
-put_reason_lem r q x at out e h = rw e h
-
-pub put_fault_lem : (f g : Fault) (x : ℕ × List ℕ) (at : ℕ) (out : List ℕ) → f ≡ g → x ≡ put_at (fault_of g) at out → x ≡ put_at (fault_of f) at out
-put_fault_lem f g x at out e h = rw e h
-
 pub printed : (n at k end : ℕ) (before after text : List ℕ) → ◌≡◌ {A = ℕ × List ℕ} (end, after) (put_at (take k text) at before) → take k text ≡ last_digits 10 k n → IsDigitCount 10 1 n k → Printed n at before end after
 printed n at k end before after text e g f = record { count = k; fewest = f; text = e ∙ ap (λ (l : List ℕ). put_at l at before) g }
-
-pub glyph_low : (d : ℕ) → d < 10 → 48 + d ≡ hex_digit_ascii d
-glyph_low d h = rw (lt-ltb d 10 h)
-
-pub glyph_high : (d : ℕ) → 10 ≤ d → 87 + d ≡ hex_digit_ascii d
-glyph_high d h = rw (le-ltb d 10 h)
-
-pub put_two : (b x y at : ℕ) (out : List ℕ) (r : ℕ × List ℕ) → r ≡ put_at (x ∷ y ∷ []) at out → x ≡ hex_digit_ascii (b / 16) → y ≡ hex_digit_ascii (b % 16) → r ≡ put_at (hex_digit_ascii (b / 16) ∷ hex_digit_ascii (b % 16) ∷ []) at out
-put_two b x y at out r h e f = h ∙ ap₂ (λ (u v : ℕ). put_at (u ∷ v ∷ []) at out) e f

@@ -1,24 +1,25 @@
-use native.Mathlib.Omega.{arith}
-use Rattle.shell.proofs.Laws.Numbers.{digits, number_start, number_next}
+-- `shell::numbers::number_to` meets its contract.
+use Rattle.std.proofs.Common.{arith}
+use Rattle.shell.proofs.Laws.Numbers.{number_none, number_start, number_bad, number_large, number_next, number_end}
 use Rattle.shell.proofs.numbers.number_to.Goals as goal
 
-pub returns-then-text-eq0 : goal.returns-then-text-eq0
-returns-then-text-eq0 c = search digits
+pub returns-then-is_empty-clause-said : goal.returns-then-is_empty-clause-said
+returns-then-is_empty-clause-said c = number_none _ _ c.if-is_empty.ensures
 
-pub loop-i-init : goal.loop-i-init
-loop-i-init c = (omega arith, search (number_start))
+pub loop-b-init : goal.loop-b-init
+loop-b-init c = record { small = omega arith; same = number_start _ _ c.if-is_empty.ensures }
 
-pub returns-then-b-lt48 : goal.returns-then-b-lt48
-returns-then-b-lt48 c = search digits
+pub returns-in_default-clause-said : goal.returns-in_default-clause-said
+returns-in_default-clause-said c = number_bad _ _ _ _ c.loop-b.invariant.same c.loop-b-test.true _ c.digit_of.ensures.said c.in_default.is
 
-pub returns-then-b-gt57 : goal.returns-then-b-gt57
-returns-then-b-gt57 c = search digits
+pub returns-then-most-value-clause-said : goal.returns-then-most-value-clause-said
+returns-then-most-value-clause-said c = number_large _ _ _ _ c.loop-b.invariant.same c.loop-b-test.true _ c.digit_of.ensures.said _ c.in-Some.is _ c.from.ensures c.if-most-value.true
 
-pub returns-then-most-next : goal.returns-then-most-next
-returns-then-most-next c = search digits
+pub loop-b-preserved : goal.loop-b-preserved
+loop-b-preserved c = record {
+  small = c.if-most-value.false;
+  same = number_next _ _ _ _ c.loop-b.invariant.same c.loop-b-test.true _ c.digit_of.ensures.said _ c.in-Some.is _ c.from.ensures c.if-most-value.false;
+}
 
-pub loop-i-preserved : goal.loop-i-preserved
-loop-i-preserved c = (omega arith, search (number_next))
-
-pub returns : goal.returns
-returns c = search digits
+pub returns-clause-said : goal.returns-clause-said
+returns-clause-said c = number_end _ _ _ _ c.loop-b.invariant.same c.loop-b-test.false

@@ -1,12 +1,7 @@
--- `shell::texts::put` meets its contract.
-use Prim.Native.Nat.{◌-◌}
-use mathlib.Core.Path.{◌≡◌}
-use lib.ListN.{length, drop}
+-- The bytes put so far, and behind them those that are left.
+use Rattle.std.proofs.Common.{◌≡◌, drop}
 use Rattle.shell.specs.Texts.{put_at}
 use Rattle.shell.proofs.texts.put.Given as goal
 
-abbrev pub invariant-loop-i : goal.invariant-loop-i
-invariant-loop-i l = (length l.out ≡ length l.initial.out) × (put_at l.text l.at l.initial.out ≡ put_at (drop l.i l.text) l.to l.out)
-
-abbrev pub decreases-loop-i : goal.decreases-loop-i
-decreases-loop-i l = length l.text - l.i
+abbrev pub invariant-loop-b : goal.invariant-loop-b
+invariant-loop-b l = put_at l.text l.at l.initial.out ≡ put_at (drop l.b-index l.text) l.to l.out
