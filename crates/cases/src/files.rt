@@ -1,10 +1,13 @@
 // Record files of the reference, each beside each: whether the one is the beginning of the other, in bytes and in sets.
 // A line of the file `files` is a record file: its colour count, how many sets it holds, how many bytes, the bytes, and the
 // sets, each as its length and its ids. The work grows with the square of the lines.
+use crate::numbers::{Fault, list_of, narrowed, numbers_of, readable};
+use capi::records;
+use std::alloc::{AllocError, Global};
 use std::io;
 
 // What two files show.
-#[derive(Clone, Copy)]
+#[derive(Clone, Copy, Debug, PartialEq, Eq)]
 enum Pair {
     // Of one colour count: the one is the beginning of the other in bytes and in sets, in neither, or in one of them alone.
     Beginning,
@@ -15,240 +18,132 @@ enum Pair {
     Unrelated,
 }
 
-// How many pairs there were of one colour count, and of each kind worth telling.
-#[derive(Clone, Copy)]
-struct Seen {
-    pairs: u64,
-    beginnings: u64,
-    alone: u64,
-    other_sets: u64,
-}
-
-fn one_more(count: u64) -> u64 {
-    std::num::wrapping_add_u64(count, 1)
-}
-
-fn counted(s: Seen, pair: Pair) -> Seen {
-    match pair {
-        Pair::Beginning => Seen {
-            pairs: one_more(s.pairs),
-            beginnings: one_more(s.beginnings),
-            alone: s.alone,
-            other_sets: s.other_sets,
-        },
-        Pair::Neither => Seen {
-            pairs: one_more(s.pairs),
-            beginnings: s.beginnings,
-            alone: s.alone,
-            other_sets: s.other_sets,
-        },
-        Pair::Alone => Seen {
-            pairs: one_more(s.pairs),
-            beginnings: s.beginnings,
-            alone: one_more(s.alone),
-            other_sets: s.other_sets,
-        },
-        Pair::OtherSets => Seen {
-            pairs: s.pairs,
-            beginnings: s.beginnings,
-            alone: s.alone,
-            other_sets: one_more(s.other_sets),
-        },
-        Pair::Unrelated => s,
+impl Pair {
+    fn is_of_one_count(&self) -> bool {
+        matches!(self, Pair::Beginning | Pair::Neither | Pair::Alone)
     }
 }
 
-// Whether a list is the beginning of another.
-fn is_beginning(a: &[u64], b: &[u64]) -> bool {
-    if b.len() < a.len() {
-        return false;
-    }
-    let mut i: usize = 0;
-    while i < a.len() {
-        if a[i] != b[i] {
-            return false;
-        }
-        i += 1;
-    }
-    true
+#[derive(Debug, Drop)]
+struct File {
+    colors: u32,
+    count: u64,
+    bytes: Vec<u8>,
+    // The sets, each as its length and its ids.
+    sets: Vec<u64>,
 }
 
-fn equal(a: &[u64], b: &[u64]) -> bool {
-    if a.len() == b.len() {
-        return is_beginning(a, b);
+impl File {
+    fn of(alloc: Global, line: &str) -> Result<File, Fault> {
+        let numbers = numbers_of(alloc, line)?;
+        let [colors, count, rest @ ..] = numbers.as_slice() else {
+            return Err(Fault::Cut);
+        };
+        let (bytes, sets) = list_of(rest)?;
+        Ok(File {
+            colors: u32::try_from(*colors)?,
+            count: *count,
+            bytes: narrowed(alloc, bytes)?,
+            sets: sets.to_vec(alloc)?,
+        })
     }
-    false
-}
 
-// One more set: its length and its ids.
-fn put_set(ids: &[u32], sets: &mut [u64], used: usize) -> usize {
-    let mut end = crate::push(sets, used, ids.len() as u64);
-    let mut i: usize = 0;
-    while i < ids.len() {
-        end = crate::push(sets, end, crate::wide32(ids[i]));
-        i += 1;
-    }
-    end
-}
-
-// So many sets, read one after another, as many as can be read; bytes behind them count as one set more.
-fn read_sets(n: u32, count: u64, file: &[u8], ids: &mut [u32], sets: &mut [u64]) -> usize {
-    let mut at: usize = 0;
-    let mut used: usize = 0;
-    let mut i: u64 = 0;
-    while i < count {
-        let mut given: u64 = 0;
-        let mut taken: u64 = 0;
-        let from = crate::bytes_of(file, at);
-        let code = capi::records::rf_read_record(n, &file[from..], ids, &mut given, &mut taken);
-        if code != 0 {
-            return used;
-        }
-        let k = crate::ids_of(ids, given as usize);
-        used = put_set(&ids[..k], sets, used);
-        at = std::num::wrapping_add_usize(at, taken as usize);
-        i += 1;
-    }
-    if at < file.len() {
-        return crate::push(sets, used, 0);
-    }
-    used
-}
-
-// Whether reading a file gives its sets.
-fn reads_back(line: &[u64], bytes: &mut [u8], ids: &mut [u32], sets: &mut [u64]) -> bool {
-    if line.len() < 3 {
-        return false;
-    }
-    let k = line[2] as usize;
-    if k <= line.len() - 3 {
-        let end = 3 + k;
-        crate::fill_bytes(&line[3..end], k, bytes);
-        let space = crate::bytes_of(bytes, k);
-        let used = read_sets(crate::narrow(line[0]), line[1], &bytes[..space], ids, sets);
-        let m = crate::words_of(sets, used);
-        return equal(&line[end..], &sets[..m]);
-    }
-    false
-}
-
-// Two files of one colour count.
-fn of_one_count(in_bytes: bool, in_sets: bool) -> Pair {
-    if in_bytes {
-        if in_sets {
-            return Pair::Beginning;
-        }
-        return Pair::Alone;
-    }
-    if in_sets {
-        return Pair::Alone;
-    }
-    Pair::Neither
-}
-
-// Two files of two colour counts.
-fn of_two_counts(equal_bytes: bool, equal_sets: bool) -> Pair {
-    if equal_sets {
-        return Pair::Unrelated;
-    }
-    if equal_bytes {
-        return Pair::OtherSets;
-    }
-    Pair::Unrelated
-}
-
-// Two lines, which are whole where their files were read back.
-fn pair_of(a: &[u64], b: &[u64]) -> Pair {
-    if a.len() < 3 {
-        return Pair::Alone;
-    }
-    if b.len() < 3 {
-        return Pair::Alone;
-    }
-    let k = a[2] as usize;
-    let m = b[2] as usize;
-    if k <= a.len() - 3 {
-        if m <= b.len() - 3 {
-            let bytes = &a[3..3 + k];
-            let bytes2 = &b[3..3 + m];
-            let sets = &a[3 + k..];
-            let sets2 = &b[3 + m..];
-            if a[0] == b[0] {
-                return of_one_count(is_beginning(bytes, bytes2), is_beginning(sets, sets2));
+    // Whether the bytes, read as so many records, are the sets, with nothing left over.
+    fn reads_back(&self, alloc: Global) -> Result<bool, AllocError> {
+        let mut ids = vec![in alloc; 0u32; self.sets.len()]?;
+        let mut sets = Vec::new(alloc);
+        let mut rest = self.bytes.as_slice();
+        for _ in 0..self.count {
+            let mut given = 0;
+            let mut taken = 0;
+            let code = records::rf_read_record(self.colors, rest, &mut ids, &mut given, &mut taken);
+            if code != 0 {
+                return Ok(false);
             }
-            return of_two_counts(equal(bytes, bytes2), equal(sets, sets2));
+            sets.push(given)?;
+            for id in ids.iter().take(given as usize) {
+                sets.push(u64::from(*id))?;
+            }
+            rest = rest.get(taken as usize..).unwrap_or(&[]);
+        }
+        Ok(rest.is_empty() && sets == self.sets)
+    }
+
+    // What it shows beside another.
+    fn beside(&self, other: &File) -> Pair {
+        if self.colors != other.colors {
+            return if self.bytes == other.bytes && self.sets != other.sets {
+                Pair::OtherSets
+            } else {
+                Pair::Unrelated
+            };
+        }
+        let in_bytes = other.bytes.starts_with(&self.bytes);
+        let in_sets = other.sets.starts_with(&self.sets);
+        match (in_bytes, in_sets) {
+            (true, true) => Pair::Beginning,
+            (false, false) => Pair::Neither,
+            _ => Pair::Alone,
         }
     }
-    Pair::Alone
 }
 
-// A file beside every one, in order.
-fn beside_all(text: &[u8], a: &[u64], b: &mut [u64], before: Seen) -> Seen {
-    let mut seen = before;
-    let mut at: usize = 0;
-    // Turns are counted, as in `replay`.
-    for _ in 0..u64::MAX {
-        if text.len() <= at {
-            break;
-        }
-        let line = crate::read_line(text, at, b);
-        at = line.next;
-        let k = crate::words_of(b, line.count);
-        seen = counted(seen, pair_of(a, &b[..k]));
+// The file of each line, none where the line can't be read.
+fn files_of(alloc: Global, text: &str) -> Result<Vec<Option<File>>, AllocError> {
+    let mut files = Vec::new(alloc);
+    for line in text.lines() {
+        files.push(readable(File::of(alloc, line))?)?;
     }
-    seen
+    Ok(files)
 }
 
-fn tell(rt: &impl Print, files: u64, misread: u64, seen: Seen) -> io::Result<()> {
-    println!(rt; "{files} record files, {misread} misread")?;
-    println!(rt;
-        "{} pairs of one colour count: {} where the one is the beginning of the other in bytes and in sets, {} in one of them alone",
-        seen.pairs, seen.beginnings, seen.alone
-    )?;
-    println!(rt;
-        "{} pairs of two colour counts with equal bytes and other sets",
-        seen.other_sets
-    )
+// How many lines are no file whose bytes are its sets.
+fn misread(alloc: Global, files: &[Option<File>]) -> Result<u64, AllocError> {
+    let mut misread = 0u64;
+    for file in files {
+        let good = match file {
+            Some(file) => file.reads_back(alloc)?,
+            None => false,
+        };
+        if !good {
+            misread = misread.saturating_add(1);
+        }
+    }
+    Ok(misread)
+}
+
+// Each file beside every one, in order.
+fn pairs_of(alloc: Global, files: &[Option<File>]) -> Result<Vec<Pair>, AllocError> {
+    let mut pairs = Vec::new(alloc);
+    for one in files {
+        for other in files {
+            pairs.push(match (one, other) {
+                (Some(one), Some(other)) => one.beside(other),
+                _ => Pair::Alone,
+            })?;
+        }
+    }
+    Ok(pairs)
+}
+
+fn count_of(pairs: &[Pair], kind: Pair) -> usize {
+    pairs.iter().filter(|pair| **pair == kind).count()
 }
 
 // Every file: that it is read back, and what it shows beside every one.
-fn compare(
-    rt: &impl Print,
-    text: &[u8],
-    a: &mut [u64],
-    b: &mut [u64],
-    bytes: &mut [u8],
-    ids: &mut [u32],
-) -> io::Result<()> {
-    let mut seen = Seen {
-        pairs: 0,
-        beginnings: 0,
-        alone: 0,
-        other_sets: 0,
-    };
-    let mut files: u64 = 0;
-    let mut misread: u64 = 0;
-    let mut at: usize = 0;
-    for _ in 0..u64::MAX {
-        if text.len() <= at {
-            break;
-        }
-        let line = crate::read_line(text, at, a);
-        at = line.next;
-        files = one_more(files);
-        let k = crate::words_of(a, line.count);
-        if !reads_back(&a[..k], bytes, ids, b) {
-            misread = one_more(misread);
-        }
-        seen = beside_all(text, &a[..k], b, seen);
-    }
-    tell(rt, files, misread, seen)
-}
-
-pub(crate) fn compare_all(rt: &impl Print, text: &[u8]) -> io::Result<()> {
-    let mut a = crate::number_buffer();
-    let mut b = crate::number_buffer();
-    let mut bytes = crate::byte_buffer();
-    let mut ids = crate::id_buffer();
-    compare(rt, text, &mut a, &mut b, &mut bytes, &mut ids)
+pub(crate) fn compare_all(rt: &impl Print, alloc: Global, text: &str) -> io::Result<()> {
+    let files = files_of(alloc, text)?;
+    let misread = misread(alloc, &files)?;
+    let pairs = pairs_of(alloc, &files)?;
+    let of_one_count = pairs.iter().filter(|pair| pair.is_of_one_count()).count();
+    println!(rt; "{} record files, {misread} misread", files.len())?;
+    println!(rt;
+        "{of_one_count} pairs of one colour count: {} where the one is the beginning of the other in bytes and in sets, {} in one of them alone",
+        count_of(&pairs, Pair::Beginning),
+        count_of(&pairs, Pair::Alone)
+    )?;
+    println!(rt;
+        "{} pairs of two colour counts with equal bytes and other sets",
+        count_of(&pairs, Pair::OtherSets)
+    )
 }
