@@ -26,3 +26,4 @@ pub mod Exactly
 pub mod History
 pub mod Compared
 pub mod Indexing
+pub mod Colors

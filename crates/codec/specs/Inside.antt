@@ -1,4 +1,5 @@
 -- What serves the functions inside the crate and their proofs.
+pub mod Colors
 pub mod Places
 pub mod Windows
 pub mod Writers

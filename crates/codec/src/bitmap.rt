@@ -2,12 +2,13 @@
 ghost use Rattle.std.specs.Prelude.{◌≡◌, ◌++◌, ◌+◌, ◌-◌, ◌*◌, ◌<◌, ◌≤◌, ◌^◌, min, length, take, drop};
 ghost use Rattle.base.specs.Parts.{over};
 ghost use Rattle.codec.specs.Bits.{bits_of, low_bits};
-ghost use Rattle.codec.specs.Sets.{Within, map_bits, ids_of};
+ghost use Rattle.codec.specs.Sets.{map_bits, ids_of};
 ghost use Rattle.codec.specs.Inside.Writers.{Ready, Wrote};
 ghost use Rattle.codec.specs.Inside.Gaps.{Ahead, BitsAt};
 ghost use Rattle.codec.specs.Inside.Bitmaps.{MapOf};
 
 use crate::bits::BitWriter;
+use crate::colors::ColorSet;
 
 // A chunk of the bitmap, and how many ids of the set are passed behind it.
 #[derive(Clone, Copy)]
@@ -17,22 +18,22 @@ pub(crate) struct MapChunk {
 }
 
 // The bits for the `width` ids from `base` on, of which place `i` of the set is the first.
-pub(crate) fn map_chunk(ids: &[u32], i: usize, base: u32, width: u32, n: u32) -> MapChunk
-    requires ahead { Ahead n ids.now (record { i = i; from = base }) × (width ≤ 32) × (base + width ≤ n) }
-    requires n_bound { n ≤ 2 ^ 20 }
-    ensures { MapOf n ids.now i base width result }
+pub(crate) fn map_chunk(set: ColorSet, i: usize, base: u32, width: u32) -> MapChunk
+    requires { Ahead set.n set.ids.now (record { i = i; from = base }) × (width ≤ 32) × (base + width ≤ set.n) }
+    ensures { MapOf set.entry.n set.entry.ids.now i base width result }
 {
     let mut word: u64 = 0;
-    let mut k = i;
-    while k < ids.len() {
-        let id = ids[k];
+    for k in i..set.ids.len() {
+        let id = set.ids[k];
         if base + width <= id {
             return MapChunk { word, next: k };
         }
         word += 1u64 << (id - base);
-        k += 1;
     }
-    MapChunk { word, next: k }
+    MapChunk {
+        word,
+        next: set.ids.len(),
+    }
 }
 
 // How many bits the chunk from `base` on has.
@@ -40,24 +41,20 @@ pub(crate) fn chunk_width(base: u32, n: u32) -> u32
     requires { base < n }
     ensures { (result ≡ min 32 (n - base)) × (result ≤ 32) × (base + result ≤ n) × (0 < result) }
 {
-    if n - base < 32 {
-        return n - base;
-    }
-    32
+    u32::min(32, n - base)
 }
 
 // The bitmap behind the bits of `w`.
-pub(crate) fn write_map(out: &mut [u8], w: BitWriter, ids: &[u32], n: u32) -> BitWriter
-    requires within { Within 0 n ids.now × (n ≤ 2 ^ 20) }
-    requires ready { Ready out.old w n }
-    ensures { Wrote out.old out.new w result (map_bits 0 n ids.now) }
+pub(crate) fn write_map(out: &mut [u8], w: BitWriter, set: ColorSet) -> BitWriter
+    requires { Ready out.old w set.n }
+    ensures { Wrote out.old out.new w result (map_bits 0 set.entry.n set.entry.ids.now) }
 {
     let mut written = w;
     let mut i: usize = 0;
     let mut base: u32 = 0;
-    while base < n {
-        let width = chunk_width(base, n);
-        let c = map_chunk(ids, i, base, width, n);
+    while base < set.n {
+        let width = chunk_width(base, set.n);
+        let c = map_chunk(set, i, base, width);
         written = crate::bits::push(out, written, c.word, width);
         i = c.next;
         base += width;
@@ -66,26 +63,25 @@ pub(crate) fn write_map(out: &mut [u8], w: BitWriter, ids: &[u32], n: u32) -> Bi
 }
 
 // The place behind the bitmap, where it stands at bit place `at`.
-pub(crate) fn same_map(bytes: &[u8], at: usize, ids: &[u32], n: u32) -> Option<usize>
-    requires within { Within 0 n ids.now × (n ≤ 2 ^ 20) }
-    requires bytes_len_bound { (length bytes.now < 2 ^ 60) × (at ≤ 8 * length bytes.now) }
-    ensures { BitsAt (map_bits 0 n ids.now) bytes.now at result }
+pub(crate) fn same_map(bytes: &[u8], at: usize, set: ColorSet) -> Option<usize>
+    requires { (length bytes.now < 2 ^ 60) × (at ≤ 8 * length bytes.now) }
+    ensures { BitsAt (map_bits 0 set.entry.n set.entry.ids.now) bytes.now at result }
 {
-    if bytes.len() * 8 - at < n as usize {
+    if bytes.len() * 8 - at < set.n as usize {
         return None;
     }
     let mut i: usize = 0;
     let mut base: u32 = 0;
-    while base < n {
-        let width = chunk_width(base, n);
-        let c = map_chunk(ids, i, base, width, n);
+    while base < set.n {
+        let width = chunk_width(base, set.n);
+        let c = map_chunk(set, i, base, width);
         if crate::bits::bits_at(bytes, at + base as usize, width as usize) != c.word {
             return None;
         }
         i = c.next;
         base += width;
     }
-    Some(at + n as usize)
+    Some(at + set.n as usize)
 }
 
 // How many ids the `n` bits from `at` on tell.

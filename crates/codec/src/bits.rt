@@ -1,7 +1,7 @@
 // Bits of a byte slice, lowest first, and a writer of bits.
 ghost use Rattle.std.specs.Prelude.{◌≡◌, false, ◌++◌, ◌+◌, ◌-◌, ◌*◌, ◌/◌, ◌<◌, ◌≤◌, ◌^◌, length, get_or, take, drop};
 ghost use Rattle.base.specs.Parts.{over};
-ghost use Rattle.codec.specs.Bits.{bits_of, digit, value_of, low_bits, pack_bits, AreBytes};
+ghost use Rattle.codec.specs.Bits.{bits_of, digit, value_of, low_bits, pack_bits};
 ghost use Rattle.codec.specs.Inside.Windows.{Window};
 ghost use Rattle.codec.specs.Inside.Writers.{stream_of, Ready, Wrote};
 
@@ -143,7 +143,7 @@ pub(crate) fn push(out: &mut [u8], w: BitWriter, value: u64, count: u32) -> BitW
 
 // The bits of `w` as bytes, the last padded with zeros: how many.
 pub(crate) fn finish(out: &mut [u8], w: BitWriter) -> usize
-    requires { Ready out.old w 0 × AreBytes out.old }
+    requires { Ready out.old w 0 }
     ensures { (result ≡ length (pack_bits (stream_of out.old w))) × (out.new ≡ pack_bits (stream_of out.old w) ++ drop result out.old) }
 {
     let mut at = w.at;

@@ -1,13 +1,14 @@
 // Ids as the distances between them. A sparse set codes its own ids so, a dense set those absent.
-ghost use Rattle.std.specs.Prelude.{◌≡◌, ◌++◌, ◌+◌, ◌-◌, ◌*◌, ◌<◌, ◌≤◌, ◌^◌, length, take, drop, set, eqb, true, false};
+ghost use Rattle.std.specs.Prelude.{◌≡◌, ◌++◌, ◌+◌, ◌-◌, ◌*◌, ◌<◌, ◌≤◌, ◌^◌, length, take, drop, set, Bool, true, false};
 ghost use Rattle.base.specs.Parts.{over};
-ghost use Rattle.codec.specs.Bits.{bits_of, digit};
+ghost use Rattle.codec.specs.Bits.{bits_of};
 ghost use Rattle.codec.specs.Sets.{Within, gap_bits, read_gaps, absent};
 ghost use Rattle.codec.specs.Inside.Writers.{Ready, Wrote};
 ghost use Rattle.codec.specs.Inside.Gaps.{coded_ids, numbers, Ahead, up_in, Skipped, Gave, IdsAt, BitsAt, Accepted, Put, Kept, ids_in};
 
 use crate::bits::BitWriter;
 use crate::codes::ReadCode;
+use crate::colors::ColorSet;
 
 // A place in the ids to code: `i` ids of the set are passed, and the next coded id is `from` or more.
 #[derive(Clone, Copy)]
@@ -23,15 +24,22 @@ pub(crate) struct NextId {
     pub(crate) next: Cursor,
 }
 
-// 1 where the numbers are the same, and 0 where they are not.
-fn one_if_same(a: u32, b: u32) -> u32
-    ensures { (result ≡ digit (eqb a b)) × (result ≤ 1) }
-{
-    if a == b {
-        return 1;
-    }
-    0
+// The ids that a set codes as distances.
+pub(crate) trait CodedIds {
+    // Whether they are those absent from the set.
+    ghost dense: { Bool };
+
+    // The next id to code, if there is one.
+    fn next_id(set: ColorSet, c: Cursor) -> Option<NextId>
+        requires { Ahead set.n set.ids.now c }
+        ensures { Gave dense set.entry.n set.entry.ids.now c result };
 }
+
+// A sparse set codes its own ids.
+pub(crate) struct Present;
+
+// A dense set codes those absent from it.
+pub(crate) struct Absent;
 
 // How many of the eight ids from place `i` on go up by one from `from`: as they ascend, the first ones.
 // There is no early way out, so that several ids are compared at a time.
@@ -40,180 +48,126 @@ fn count_up(ids: &[u32], i: usize, from: u32) -> usize
     ensures { (result ≡ up_in ids.now i from 8) × (result ≤ 8) }
 {
     let mut count: u32 = 0;
-    let mut j: u32 = 0;
-    while j < 8 {
-        count += one_if_same(ids[i + j as usize], from + j);
-        j += 1;
+    for j in 0..8 {
+        count += u32::from(ids[i + j as usize] == from + j);
     }
     count as usize
 }
 
-// How many ids from place `i` on go up by one from `from`, one at a time: `low` do.
-fn skip_last(ids: &[u32], i: usize, from: u32, n: u32, low: usize) -> usize
-    requires { Skipped n ids.now i from low }
-    ensures { Skipped n ids.now i from result × Within (from + result + 1) n (drop (i + result) ids.now) }
+// How many ids from the cursor on go up by one from its number, one at a time: `low` do.
+fn skip_last(set: ColorSet, c: Cursor, low: usize) -> usize
+    requires { Skipped set.n set.ids.now c.i c.from low }
+    ensures { Skipped set.entry.n set.entry.ids.now c.i c.from result × Within (c.from + result + 1) set.entry.n (drop (c.i + result) set.entry.ids.now) }
 {
-    let mut k = low;
-    while k < ids.len() - i {
-        if ids[i + k] as usize != from as usize + k {
+    let left = set.ids.len() - c.i;
+    for k in low..left {
+        if set.ids[c.i + k] as usize != c.from as usize + k {
             return k;
         }
-        k += 1;
     }
-    k
+    left
 }
 
-// How many ids from place `i` on go up by one from `from`, eight at a time: as they ascend, the last of
-// eight tells.
-pub(crate) fn skip_present(ids: &[u32], i: usize, from: u32, n: u32) -> usize
-    requires { Ahead n ids.now (record { i = i; from = from }) }
-    ensures { Skipped n ids.now i from result × Within (from + result + 1) n (drop (i + result) ids.now) }
+// How many ids from the cursor on go up by one from its number, eight at a time: as they ascend, the last
+// of eight tells.
+fn skip_present(set: ColorSet, c: Cursor) -> usize
+    requires { Ahead set.n set.ids.now c }
+    ensures { Skipped set.entry.n set.entry.ids.now c.i c.from result × Within (c.from + result + 1) set.entry.n (drop (c.i + result) set.entry.ids.now) }
 {
     let mut k: usize = 0;
-    while k + 8 <= ids.len() - i {
-        if ids[i + k + 7] as usize != from as usize + k + 7 {
-            return k + count_up(ids, i + k, from + k as u32);
+    while k + 8 <= set.ids.len() - c.i {
+        if set.ids[c.i + k + 7] as usize != c.from as usize + k + 7 {
+            return k + count_up(set.ids, c.i + k, c.from + k as u32);
         }
         k += 8;
     }
-    skip_last(ids, i, from, n, k)
+    skip_last(set, c, k)
 }
 
-// The next id to code, if there is one.
-pub(crate) fn next_coded(ids: &[u32], n: u32, dense: bool, c: Cursor) -> Option<NextId>
-    requires { Ahead n ids.now c }
-    ensures { Gave dense n ids.now c result }
-{
-    let i = c.i;
-    let from = c.from;
-    if dense {
-        let k = skip_present(ids, i, from, n);
-        let id = from + k as u32;
-        if n <= id {
+impl CodedIds for Present {
+    ghost dense = { false };
+
+    fn next_id(set: ColorSet, c: Cursor) -> Option<NextId> {
+        if set.ids.len() <= c.i {
             return None;
         }
-        return Some(NextId {
+        let id = set.ids[c.i];
+        Some(NextId {
             id,
             next: Cursor {
-                i: i + k,
+                i: c.i + 1,
                 from: id + 1,
             },
-        });
+        })
     }
-    if ids.len() <= i {
-        return None;
-    }
-    let id = ids[i];
-    Some(NextId {
-        id,
-        next: Cursor {
-            i: i + 1,
-            from: id + 1,
-        },
-    })
 }
 
-// How many bits the ids of a sparse set take.
-pub(crate) fn sparse_len(ids: &[u32], n: u32) -> usize
-    requires { Within 0 n ids.now × (n ≤ 2 ^ 20) }
-    ensures { result ≡ length (gap_bits 0 (coded_ids false n ids.now)) }
+impl CodedIds for Absent {
+    ghost dense = { true };
+
+    fn next_id(set: ColorSet, c: Cursor) -> Option<NextId> {
+        let k = skip_present(set, c);
+        let id = c.from + k as u32;
+        if set.n <= id {
+            return None;
+        }
+        Some(NextId {
+            id,
+            next: Cursor {
+                i: c.i + k,
+                from: id + 1,
+            },
+        })
+    }
+}
+
+// How many bits the coded ids of a set take.
+pub(crate) fn gaps_len<C: CodedIds>(set: ColorSet) -> usize
+    ensures { result ≡ length (gap_bits 0 (coded_ids C.dense set.entry.n set.entry.ids.now)) }
 {
     let mut bits: usize = 0;
-    let mut from: u32 = 0;
-    let mut i: usize = 0;
-    while i < ids.len() {
-        let id = ids[i];
-        bits += crate::codes::delta_len(id - from);
-        from = id + 1;
-        i += 1;
+    let mut c = Cursor { i: 0, from: 0 };
+    while let Some(NextId { id, next }) = C::next_id(set, c) {
+        bits += crate::codes::delta_len(id - c.from);
+        c = next;
     }
     bits
 }
 
-// How many bits the ids absent from a dense set take.
-pub(crate) fn dense_len(ids: &[u32], n: u32) -> usize
-    requires { Within 0 n ids.now × (n ≤ 2 ^ 20) }
-    ensures { result ≡ length (gap_bits 0 (coded_ids true n ids.now)) }
-{
-    let mut bits: usize = 0;
-    let mut from: u32 = 0;
-    let mut i: usize = 0;
-    loop {
-        let k = skip_present(ids, i, from, n);
-        let id = from + k as u32;
-        if n <= id {
-            return bits;
-        }
-        bits += crate::codes::delta_len(id - from);
-        from = id + 1;
-        i += k;
-    }
-}
-
-// The ids of a sparse set behind the bits of `w`.
-pub(crate) fn write_sparse(out: &mut [u8], w: BitWriter, ids: &[u32], n: u32) -> BitWriter
-    requires within { Within 0 n ids.now × (n ≤ 2 ^ 20) }
-    requires ready { Ready out.old w (length (gap_bits 0 (coded_ids false n ids.now))) }
-    ensures { Wrote out.old out.new w result (gap_bits 0 (coded_ids false n ids.now)) }
+// The coded ids of a set behind the bits of `w`.
+pub(crate) fn write_gaps<C: CodedIds>(out: &mut [u8], w: BitWriter, set: ColorSet) -> BitWriter
+    requires { Ready out.old w (length (gap_bits 0 (coded_ids C.dense set.n set.ids.now))) }
+    ensures { Wrote out.old out.new w result (gap_bits 0 (coded_ids C.dense set.entry.n set.entry.ids.now)) }
 {
     let mut written = w;
-    let mut from: u32 = 0;
-    let mut i: usize = 0;
-    while i < ids.len() {
-        let id = ids[i];
-        written = crate::codes::write_delta(out, written, id - from);
-        from = id + 1;
-        i += 1;
+    let mut c = Cursor { i: 0, from: 0 };
+    while let Some(NextId { id, next }) = C::next_id(set, c) {
+        written = crate::codes::write_delta(out, written, id - c.from);
+        c = next;
     }
     written
 }
 
-// The ids absent from a dense set behind the bits of `w`.
-pub(crate) fn write_dense(out: &mut [u8], w: BitWriter, ids: &[u32], n: u32) -> BitWriter
-    requires within { Within 0 n ids.now × (n ≤ 2 ^ 20) }
-    requires ready { Ready out.old w (length (gap_bits 0 (coded_ids true n ids.now))) }
-    ensures { Wrote out.old out.new w result (gap_bits 0 (coded_ids true n ids.now)) }
-{
-    let mut written = w;
-    let mut from: u32 = 0;
-    let mut i: usize = 0;
-    loop {
-        let k = skip_present(ids, i, from, n);
-        let id = from + k as u32;
-        if n <= id {
-            return written;
-        }
-        let gap = id - from;
-        written = crate::codes::write_delta(out, written, gap);
-        from = id + 1;
-        i += k;
-    }
-}
-
-// The place behind the coded ids, where they stand at bit place `at`.
-pub(crate) fn same_gaps(bytes: &[u8], at: usize, ids: &[u32], n: u32, dense: bool) -> Option<usize>
-    requires within { Within 0 n ids.now × (n ≤ 2 ^ 20) }
-    requires bytes_len_bound { (length bytes.now < 2 ^ 60) × (at ≤ 8 * length bytes.now) }
-    ensures { BitsAt (gap_bits 0 (coded_ids dense n ids.now)) bytes.now at result }
+// The place behind the coded ids of a set, where they stand at bit place `at`.
+pub(crate) fn same_gaps<C: CodedIds>(bytes: &[u8], at: usize, set: ColorSet) -> Option<usize>
+    requires { (length bytes.now < 2 ^ 60) × (at ≤ 8 * length bytes.now) }
+    ensures { BitsAt (gap_bits 0 (coded_ids C.dense set.entry.n set.entry.ids.now)) bytes.now at result }
 {
     let last = crate::bits::last_word(bytes);
-    let mut c = Cursor { i: 0, from: 0 };
     let mut place = at;
-    loop {
-        let from = c.from;
-        let Some(NextId { id, next }) = next_coded(ids, n, dense, c) else {
-            return Some(place);
-        };
+    let mut c = Cursor { i: 0, from: 0 };
+    while let Some(NextId { id, next }) = C::next_id(set, c) {
         let ReadCode {
             value,
             next: behind,
         } = crate::codes::next_delta(bytes, last, place)?;
-        if value != id - from {
+        if value != id - c.from {
             return None;
         }
         place = behind;
         c = next;
     }
+    Some(place)
 }
 
 // An id to place `i` of `room`, where that is inside.

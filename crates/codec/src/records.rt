@@ -4,61 +4,51 @@ ghost use Rattle.base.specs.Answers.{of_written, of_given};
 ghost use Rattle.base.specs.Parts.{over};
 ghost use Rattle.codec.specs.Records.{bad_colors, record_of, write_record, record_length, read_by, after_prefix, read_into, is_record};
 ghost use Rattle.codec.specs.Prefix.{whole};
-ghost use Rattle.codec.specs.Sets.{Within, encode_set};
+ghost use Rattle.codec.specs.Sets.{encode_set};
 
+use crate::colors::ColorSet;
 use crate::prefix::Prefix;
 use crate::sets::Payload;
 use base::{Given, Refusal};
 
 // Whether a colour count is outside 1 to 1,048,576.
-fn bad_colors(n: u32) -> bool
+#[tactic(auto, unfolding(crate::specs::Records::bad_colors))]
+pub fn bad_colors(n: u32) -> bool
     ensures { result ≡ bad_colors n }
 {
-    if n == 0 {
-        return true;
-    }
-    1048576 < n
+    n == 0 || 1048576 < n
 }
 
 // How long the record of a set is.
 pub fn color_record_len(n: u32, ids: &[u32]) -> Result<usize, Refusal>
     ensures { of_written result ≡ record_length n ids.now }
 {
-    if bad_colors(n) {
-        return Err(Refusal::Colors);
-    }
-    if !crate::sets::is_ascending(ids, n) {
-        return Err(Refusal::Ids);
-    }
-    let len = payload_len(n, ids);
+    let set = ColorSet::new(n, ids)?;
+    let len = payload_len(set);
     Ok(crate::prefix::varint_len(len) + len as usize)
 }
 
 // How many bytes the payload of a set has.
-fn payload_len(n: u32, ids: &[u32]) -> u32
-    requires { Within 0 n ids.now × (1 ≤ n) × (n ≤ 2 ^ 20) }
-    ensures { result ≡ length (encode_set n ids.now) }
+fn payload_len(set: ColorSet) -> u32
+    ensures { result ≡ length (encode_set set.entry.n set.entry.ids.now) }
 {
-    ((crate::sets::set_len(n, ids) + 7) / 8) as u32
+    ((crate::sets::set_len(set) + 7) / 8) as u32
 }
 
 // Whether any record of sets of `n` colours fits in `room` bytes with a prefix of one byte.
 fn is_short(n: u32, room: usize) -> bool
     ensures { result ≡ (ltb n 136 && leb 128 room) }
 {
-    if n < 136 {
-        return 128 <= room;
-    }
-    false
+    n < 136 && 128 <= room
 }
 
 // The record of a set to the front of `out`: how long it is. With so few colours a payload has fewer than 128
 // bytes, so that it needs no measuring before it is written behind its length.
-fn write_short(n: u32, ids: &[u32], out: &mut [u8]) -> usize
-    requires { Within 0 n ids.now × (n < 136) × (128 ≤ length out.old) }
-    ensures { (result ≡ length (record_of n ids.now)) × (result ≤ 128) × (out.new ≡ over (record_of n ids.now) out.old) }
+fn write_short(set: ColorSet, out: &mut [u8]) -> usize
+    requires { (set.n < 136) × (128 ≤ length out.old) }
+    ensures { (result ≡ length (record_of set.entry.n set.entry.ids.now)) × (result ≤ 128) × (out.new ≡ over (record_of set.entry.n set.entry.ids.now) out.old) }
 {
-    let len = crate::sets::encode_source_set(&mut out[1..], n, ids);
+    let len = crate::sets::encode_source_set(&mut out[1..], set);
     out[0] = len as u8;
     len + 1
 }
@@ -67,23 +57,18 @@ fn write_short(n: u32, ids: &[u32], out: &mut [u8]) -> usize
 pub fn write_color_record(n: u32, ids: &[u32], out: &mut [u8]) -> Result<usize, Refusal>
     ensures { (of_written result, out.new) ≡ write_record n ids.now out.old }
 {
-    if bad_colors(n) {
-        return Err(Refusal::Colors);
-    }
-    if !crate::sets::is_ascending(ids, n) {
-        return Err(Refusal::Ids);
-    }
+    let set = ColorSet::new(n, ids)?;
     if is_short(n, out.len()) {
-        return Ok(write_short(n, ids, out));
+        return Ok(write_short(set, out));
     }
-    let len = payload_len(n, ids);
+    let len = payload_len(set);
     let at = crate::prefix::varint_len(len);
     let total = at + len as usize;
     if out.len() < total {
         return Err(Refusal::Space);
     }
     crate::prefix::fill_varint(len, out);
-    crate::sets::encode_source_set(&mut out[at..], n, ids);
+    crate::sets::encode_source_set(&mut out[at..], set);
     Ok(total)
 }
 
@@ -152,12 +137,9 @@ fn read_whole(
 pub fn is_color_record(n: u32, ids: &[u32], input: &[u8]) -> bool
     ensures { result ≡ is_record n ids.now input.now }
 {
-    if bad_colors(n) {
+    let Ok(set) = ColorSet::new(n, ids) else {
         return false;
-    }
-    if !crate::sets::is_ascending(ids, n) {
-        return false;
-    }
+    };
     let Ok(Prefix { value, len }) = crate::prefix::read_varint_len(input) else {
         return false;
     };
@@ -166,5 +148,5 @@ pub fn is_color_record(n: u32, ids: &[u32], input: &[u8]) -> bool
         return false;
     }
     let end = len + value;
-    crate::sets::same_set(n, ids, &input[len..end])
+    crate::sets::same_set(set, &input[len..end])
 }

@@ -1,14 +1,16 @@
 // Payloads: a set's length, then its ids by one of three regimes.
 ghost use Rattle.std.specs.Prelude.{◌≡◌, ◌&&◌, ltb, ◌+◌, ◌*◌, ◌<◌, ◌≤◌, ◌^◌, length, get_or, drop};
 ghost use Rattle.base.specs.Parts.{over};
-ghost use Rattle.codec.specs.Bits.{bits_of, AreBytes};
-ghost use Rattle.codec.specs.Sets.{Within, within, regime, dense, body_bits, set_bits, encode_set, read_map, read_body, padding, decode_set};
+ghost use Rattle.codec.specs.Bits.{bits_of};
+ghost use Rattle.codec.specs.Sets.{within, regime, dense, body_bits, set_bits, encode_set, read_map, read_body, padding, decode_set};
 ghost use Rattle.codec.specs.Inside.Writers.{Ready, Wrote};
 ghost use Rattle.codec.specs.Inside.Gaps.{IdsAt, BitsAt};
 ghost use Rattle.codec.specs.Inside.Payloads.{has_fall, regime_of, PayloadOf, KeptBy, KeptOf, set_ids, gives_set};
 
 use crate::bits::BitWriter;
 use crate::codes::ReadCode;
+use crate::colors::ColorSet;
+use crate::gaps::{Absent, Present};
 
 // Whether an id is not above the one before it. There is no early way out, so that several ids are
 // compared at a time.
@@ -17,10 +19,8 @@ fn has_fall(ids: &[u32]) -> bool
     ensures { result ≡ has_fall (get_or ids.now 0 0) (drop 1 ids.now) }
 {
     let mut found = false;
-    let mut i: usize = 1;
-    while i < ids.len() {
-        found = found | (ids[i] <= ids[i - 1]);
-        i += 1;
+    for i in 1..ids.len() {
+        found |= ids[i] <= ids[i - 1];
     }
     found
 }
@@ -29,13 +29,7 @@ fn has_fall(ids: &[u32]) -> bool
 pub(crate) fn is_ascending(ids: &[u32], n: u32) -> bool
     ensures { result ≡ within 0 n ids.now }
 {
-    if ids.len() == 0 {
-        return true;
-    }
-    if has_fall(ids) {
-        return false;
-    }
-    ids[ids.len() - 1] < n
+    ids.len() == 0 || !has_fall(ids) && ids[ids.len() - 1] < n
 }
 
 // How a set of `len` ids is written.
@@ -63,46 +57,43 @@ pub(crate) fn kind_of(n: u32, len: usize) -> Kind
 }
 
 // How many bits a set takes.
-pub(crate) fn set_len(n: u32, ids: &[u32]) -> usize
-    requires { Within 0 n ids.now × (n ≤ 2 ^ 20) }
-    ensures { (result ≡ length (set_bits n ids.now)) × (result < 2 ^ 26) }
+pub(crate) fn set_len(set: ColorSet) -> usize
+    ensures { (result ≡ length (set_bits set.entry.n set.entry.ids.now)) × (result < 2 ^ 26) }
 {
-    let head = crate::codes::delta_len(ids.len() as u32);
-    match kind_of(n, ids.len()) {
+    let head = crate::codes::delta_len(set.ids.len() as u32);
+    match kind_of(set.n, set.ids.len()) {
         Kind::Empty => head,
-        Kind::Sparse => head + crate::gaps::sparse_len(ids, n),
-        Kind::Bitmap => head + n as usize,
-        Kind::Dense => head + crate::gaps::dense_len(ids, n),
+        Kind::Sparse => head + crate::gaps::gaps_len::<Present>(set),
+        Kind::Bitmap => head + set.n as usize,
+        Kind::Dense => head + crate::gaps::gaps_len::<Absent>(set),
     }
 }
 
 // The ids behind the bits of `w`.
-pub(crate) fn write_body(out: &mut [u8], w: BitWriter, n: u32, ids: &[u32]) -> BitWriter
-    requires within { Within 0 n ids.now × (n ≤ 2 ^ 20) }
-    requires ready { Ready out.old w (length (body_bits (regime n (length ids.now)) n ids.now)) }
-    ensures { Wrote out.old out.new w result (body_bits (regime n (length ids.now)) n ids.now) }
+pub(crate) fn write_body(out: &mut [u8], w: BitWriter, set: ColorSet) -> BitWriter
+    requires { Ready out.old w (length (body_bits (regime set.n (length set.ids.now)) set.n set.ids.now)) }
+    ensures { Wrote out.old out.new w result (body_bits (regime set.entry.n (length set.entry.ids.now)) set.entry.n set.entry.ids.now) }
 {
-    match kind_of(n, ids.len()) {
+    match kind_of(set.n, set.ids.len()) {
         Kind::Empty => w,
-        Kind::Sparse => crate::gaps::write_sparse(out, w, ids, n),
-        Kind::Bitmap => crate::bitmap::write_map(out, w, ids, n),
-        Kind::Dense => crate::gaps::write_dense(out, w, ids, n),
+        Kind::Sparse => crate::gaps::write_gaps::<Present>(out, w, set),
+        Kind::Bitmap => crate::bitmap::write_map(out, w, set),
+        Kind::Dense => crate::gaps::write_gaps::<Absent>(out, w, set),
     }
 }
 
 // The payload of a set to the front of `out`: how many bytes it has.
-pub(crate) fn encode_source_set(out: &mut [u8], n: u32, ids: &[u32]) -> usize
-    requires within { Within 0 n ids.now × (n ≤ 2 ^ 20) × AreBytes out.old }
-    requires ids_in_bounds { length (encode_set n ids.now) ≤ length out.old }
-    ensures { (result ≡ length (encode_set n ids.now)) × (out.new ≡ over (encode_set n ids.now) out.old) }
+pub(crate) fn encode_source_set(out: &mut [u8], set: ColorSet) -> usize
+    requires { length (encode_set set.n set.ids.now) ≤ length out.old }
+    ensures { (result ≡ length (encode_set set.entry.n set.entry.ids.now)) × (out.new ≡ over (encode_set set.entry.n set.entry.ids.now) out.old) }
 {
     let w = BitWriter {
         at: 0,
         acc: 0,
         pending: 0,
     };
-    let w = crate::codes::write_delta(out, w, ids.len() as u32);
-    let w = write_body(out, w, n, ids);
+    let w = crate::codes::write_delta(out, w, set.ids.len() as u32);
+    let w = write_body(out, w, set);
     crate::bits::finish(out, w)
 }
 
@@ -206,31 +197,30 @@ pub(crate) fn decode_source_set(
 }
 
 // The place behind the bits of a set's ids, where they stand at bit place `at`.
-pub(crate) fn same_body(n: u32, ids: &[u32], payload: &[u8], at: usize) -> Option<usize>
-    requires within { Within 0 n ids.now × (n ≤ 2 ^ 20) }
-    requires payload_len_bound { (length payload.now < 2 ^ 60) × (at ≤ 8 * length payload.now) }
-    ensures { BitsAt (body_bits (regime n (length ids.now)) n ids.now) payload.now at result }
+pub(crate) fn same_body(set: ColorSet, payload: &[u8], at: usize) -> Option<usize>
+    requires { (length payload.now < 2 ^ 60) × (at ≤ 8 * length payload.now) }
+    ensures { BitsAt (body_bits (regime set.entry.n (length set.entry.ids.now)) set.entry.n set.entry.ids.now) payload.now at result }
 {
-    match kind_of(n, ids.len()) {
+    match kind_of(set.n, set.ids.len()) {
         Kind::Empty => Some(at),
-        Kind::Sparse => crate::gaps::same_gaps(payload, at, ids, n, false),
-        Kind::Bitmap => crate::bitmap::same_map(payload, at, ids, n),
-        Kind::Dense => crate::gaps::same_gaps(payload, at, ids, n, true),
+        Kind::Sparse => crate::gaps::same_gaps::<Present>(payload, at, set),
+        Kind::Bitmap => crate::bitmap::same_map(payload, at, set),
+        Kind::Dense => crate::gaps::same_gaps::<Absent>(payload, at, set),
     }
 }
 
 // Whether the payload is the one written for these ids.
-pub(crate) fn same_set(n: u32, ids: &[u32], payload: &[u8]) -> bool
-    requires { Within 0 n ids.now × (n ≤ 2 ^ 20) × (length payload.now < 2 ^ 60) }
-    ensures { result ≡ gives_set (decode_set n payload.now) ids.now }
+pub(crate) fn same_set(set: ColorSet, payload: &[u8]) -> bool
+    requires { length payload.now < 2 ^ 60 }
+    ensures { result ≡ gives_set (decode_set set.entry.n payload.now) set.entry.ids.now }
 {
     let Some(ReadCode { value, next }) = crate::reader::first_delta(payload) else {
         return false;
     };
-    if value as usize != ids.len() {
+    if value as usize != set.ids.len() {
         return false;
     }
-    let Some(behind) = same_body(n, ids, payload, next) else {
+    let Some(behind) = same_body(set, payload, next) else {
         return false;
     };
     is_padding(payload, behind)

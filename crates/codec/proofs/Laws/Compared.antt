@@ -79,7 +79,7 @@ module _ (N : ℕ) (ids payload : List ℕ) where
 
 -- ---- records
 
-within_all : (from top : ℕ) (xs : List ℕ) → Within from top xs → within from top xs ≡ true
+pub within_all : (from top : ℕ) (xs : List ℕ) → Within from top xs → within from top xs ≡ true
 unfolding within
 within_all from top [] w = refl
 within_all from top (x ∷ xs) w = rw (le-leb from x w.0, lt-ltb x top w.1, within_all (x + 1) top xs w.2)

@@ -25,6 +25,7 @@ use Rattle.codec.specs.declared.sets.Kind.TheVariants.{Empty, Sparse, Bitmap, De
 use Rattle.codec.proofs.Laws.Sizes.{set_size, length_payload}
 use Rattle.codec.proofs.Laws.Sets.{absent_count}
 use Rattle.codec.proofs.Laws.Varints.{prefix_1}
+use Rattle.codec.proofs.Laws.Writers.{wrote_then}
 
 -- ---- the bits of the body, by kind
 
@@ -65,6 +66,11 @@ module _ (N : ℕ) (ids : List ℕ) (body : List Bool) (is : body ≡ body_bits 
 -- a writer at the front of a buffer that the payload fits
 pub ready_front : (N : ℕ) (ids out : List ℕ) → length (encode_set N ids) ≤ length out → Ready out (record { at = 0; acc = 0; pending = 0 }) (length (set_bits N ids))
 ready_front N ids out h = record { few = omega arith; small = omega arith; room = omega (arith, length_payload N ids) }
+
+-- the length and then the body, written one behind the other
+pub set_written : (N : ℕ) (ids out mid after : List ℕ) (w v r : BitWriter) → Wrote out mid w v (delta (length ids)) → Wrote mid after v r (body_bits (regime N (length ids)) N ids) → Wrote out after w r (set_bits N ids)
+unfolding set_bits
+set_written N ids out mid after w v r a b = wrote_then out mid w v (delta (length ids)) a after r (body_bits (regime N (length ids)) N ids) b
 
 -- the bits written from the front on, as bytes
 pub encoded : (N r : ℕ) (ids out mid after : List ℕ) (w : BitWriter) → Wrote out mid (record { at = 0; acc = 0; pending = 0 }) w (set_bits N ids)

@@ -1,11 +1,6 @@
 -- `codec::bitmap::map_chunk` meets its contract. The loop's invariant: the ids passed are the word's bits.
-use Prim.Native.Nat.{◌-◌}
-use lib.ListN.{length}
 use Rattle.codec.proofs.Laws.Bitmaps.{Chunked}
 use Rattle.codec.proofs.bitmap.map_chunk.Given as goal
 
 abbrev pub invariant-loop-k : goal.invariant-loop-k
-invariant-loop-k l = Chunked l.n l.ids l.i l.base l.width l.word l.k
-
-abbrev pub decreases-loop-k : goal.decreases-loop-k
-decreases-loop-k l = length l.ids - l.k
+invariant-loop-k l = Chunked l.set.n l.set.ids.now l.i l.base l.width l.word l.k

@@ -14,25 +14,25 @@ use Rattle.codec.proofs.bitmap.same_map.Goals as goal
 pub returns-then-bytes-at : goal.returns-then-bytes-at
 returns-then-bytes-at c =
     let a = c.args in
-    λ rest e. omega (arith, length-drop a.at (bits_of a.bytes.now), length_bits a.bytes.now, ap length e ∙ length-append (map_bits 0 a.n a.ids.now) rest, length_map_bits a.n 0 a.ids.now)
+    λ rest e. omega (arith, length-drop a.at (bits_of a.bytes.now), length_bits a.bytes.now, ap length e ∙ length-append (map_bits 0 a.set.n a.set.ids.now) rest, length_map_bits a.set.n 0 a.set.ids.now)
 
 pub loop-base-init : goal.loop-base-init
 loop-base-init c =
     let a = c.args in
     let z : a.at ≡ a.at + 0 = omega arith in
-    ([], mapping_start a.n a.ids.now c.requires.within.0, ap (λ (k : ℕ). drop k (bits_of a.bytes.now)) z)
+    ([], mapping_start a.set.n a.set.ids.now a.set.within, ap (λ (k : ℕ). drop k (bits_of a.bytes.now)) z)
 
 pub map_chunk-c-requires : goal.map_chunk-c-requires
 map_chunk-c-requires c =
-    record { ahead = (c.loop-base.invariant.1.ahead, c.chunk_width-width.ensures.1, c.chunk_width-width.ensures.2); n_bound = c.requires.within.1 }
+    (c.loop-base.invariant.1.ahead, c.chunk_width-width.ensures.1, c.chunk_width-width.ensures.2)
 
 pub bits_at-requires : goal.bits_at-requires
-bits_at-requires c = record { b_bound = (omega (arith, c.chunk_width-width.ensures.2), c.chunk_width-width.ensures.1); bytes_len_bound = c.requires.bytes_len_bound.0 }
+bits_at-requires c = record { b_bound = (omega (arith, c.chunk_width-width.ensures.2), c.chunk_width-width.ensures.1); bytes_len_bound = c.requires.0 }
 
 pub returns-then-bits_at-c : goal.returns-then-bits_at-c
 returns-then-bits_at-c c =
     let a = c.args in
-    λ rest e. c.if-bits_at-c.true (c.bits_at.ensures.0 ∙ mapping_read a.n a.ids.now c.loop-base.i c.loop-base.base c.loop-base.invariant.0 c.loop-base.invariant.1 c.chunk_width-width.result c.map_chunk-c.result c.map_chunk-c.ensures _ _ rest c.loop-base.invariant.2 e)
+    λ rest e. c.if-bits_at-c.true (c.bits_at.ensures.0 ∙ mapping_read a.set.n a.set.ids.now c.loop-base.i c.loop-base.base c.loop-base.invariant.0 c.loop-base.invariant.1 c.chunk_width-width.result c.map_chunk-c.result c.map_chunk-c.ensures _ _ rest c.loop-base.invariant.2 e)
 
 pub overflow_add-base : goal.overflow_add-base
 overflow_add-base c = omega (arith, c.chunk_width-width.ensures.2)
@@ -51,7 +51,7 @@ loop-base-preserved c =
     in
     let n : a.at + c.loop-base.base + width ≡ a.at + (c.loop-base.base + width) = omega arith in (
       c.loop-base.invariant.0 ++ low_bits width word,
-      mapping_next a.n a.ids.now c.loop-base.i c.loop-base.base c.loop-base.invariant.0 c.loop-base.invariant.1 width c.map_chunk-c.result c.map_chunk-c.ensures,
+      mapping_next a.set.n a.set.ids.now c.loop-base.i c.loop-base.base c.loop-base.invariant.0 c.loop-base.invariant.1 width c.map_chunk-c.result c.map_chunk-c.ensures,
       c.loop-base.invariant.2 ∙ ap (λ (x : List Bool). c.loop-base.invariant.0 ++ x) here ∙ sym (append_assoc c.loop-base.invariant.0 (low_bits width word) (drop (a.at + c.loop-base.base + width) bits)) ∙ ap (λ (k : ℕ). c.loop-base.invariant.0 ++ low_bits width word ++ drop k bits) n,
     )
 
@@ -59,5 +59,5 @@ pub returns : goal.returns
 returns c =
     let a = c.args in
     let bits : List Bool = bits_of a.bytes.now in
-    let n : a.at + c.loop-base.base ≡ a.at + a.n = omega (arith, c.loop-base.invariant.1.ahead.below) in
-    (c.loop-base.invariant.2 ∙ ap (λ (x : List Bool). x ++ drop (a.at + c.loop-base.base) bits) (sym (mapping_end a.n a.ids.now c.loop-base.i c.loop-base.base c.loop-base.invariant.0 c.loop-base.invariant.1 (omega arith))) ∙ ap (λ (k : ℕ). map_bits 0 a.n a.ids.now ++ drop k bits) n, omega arith)
+    let n : a.at + c.loop-base.base ≡ a.at + a.set.n = omega (arith, c.loop-base.invariant.1.ahead.below) in
+    (c.loop-base.invariant.2 ∙ ap (λ (x : List Bool). x ++ drop (a.at + c.loop-base.base) bits) (sym (mapping_end a.set.n a.set.ids.now c.loop-base.i c.loop-base.base c.loop-base.invariant.0 c.loop-base.invariant.1 (omega arith))) ∙ ap (λ (k : ℕ). map_bits 0 a.set.n a.set.ids.now ++ drop k bits) n, omega arith)

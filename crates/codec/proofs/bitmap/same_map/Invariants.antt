@@ -9,7 +9,7 @@ use Rattle.codec.proofs.Laws.Bitmaps.{Mapping}
 use Rattle.codec.proofs.bitmap.same_map.Given as goal
 
 abbrev pub invariant-loop-base : goal.invariant-loop-base
-invariant-loop-base l = (done : List Bool) × Mapping l.n l.ids l.i l.base done × (drop l.at (bits_of l.bytes) ≡ done ++ drop (l.at + l.base) (bits_of l.bytes))
+invariant-loop-base l = (done : List Bool) × Mapping l.set.n l.set.ids.now l.i l.base done × (drop l.at (bits_of l.bytes) ≡ done ++ drop (l.at + l.base) (bits_of l.bytes))
 
 abbrev pub decreases-loop-base : goal.decreases-loop-base
-decreases-loop-base l = l.n - l.base
+decreases-loop-base l = l.set.n - l.base

@@ -10,15 +10,15 @@ use Rattle.codec.proofs.bitmap.write_map.Goals as goal
 pub loop-base-init : goal.loop-base-init
 loop-base-init c =
     let a = c.args in
-    ([], mapping_start a.n a.ids.now c.requires.within.0, wrote_none a.out.now a.w a.n c.requires.ready)
+    ([], mapping_start a.set.n a.set.ids.now a.set.within, wrote_none a.out.now a.w a.set.n c.requires)
 
 pub map_chunk-c-requires : goal.map_chunk-c-requires
 map_chunk-c-requires c =
-    record { ahead = (c.loop-base.invariant.1.ahead, c.chunk_width-width.ensures.1, c.chunk_width-width.ensures.2); n_bound = c.requires.within.1 }
+    (c.loop-base.invariant.1.ahead, c.chunk_width-width.ensures.1, c.chunk_width-width.ensures.2)
 
 pub push-written-requires : goal.push-written-requires
 push-written-requires c =
-    let a = c.args in record { ready = ready_after a.out.now c.loop-base.out a.w c.loop-base.written c.loop-base.invariant.0 c.loop-base.invariant.2 a.n c.chunk_width-width.result c.requires.ready (omega (arith, mapping_count a.n a.ids.now c.loop-base.i c.loop-base.base c.loop-base.invariant.0 c.loop-base.invariant.1, c.chunk_width-width.ensures.2)); value_bound = (c.map_chunk-c.ensures.small, c.chunk_width-width.ensures.1) }
+    let a = c.args in record { ready = ready_after a.out.now c.loop-base.out a.w c.loop-base.written c.loop-base.invariant.0 c.loop-base.invariant.2 a.set.n c.chunk_width-width.result c.requires (omega (arith, mapping_count a.set.n a.set.ids.now c.loop-base.i c.loop-base.base c.loop-base.invariant.0 c.loop-base.invariant.1, c.chunk_width-width.ensures.2)); value_bound = (c.map_chunk-c.ensures.small, c.chunk_width-width.ensures.1) }
 
 pub overflow_add-base : goal.overflow_add-base
 overflow_add-base c = omega (arith, c.chunk_width-width.ensures.2, c.chunk_width-width.ensures.3)
@@ -30,7 +30,7 @@ pub loop-base-preserved : goal.loop-base-preserved
 loop-base-preserved c =
     let a = c.args in (
       c.loop-base.invariant.0 ++ low_bits c.chunk_width-width.result c.map_chunk-c.result.word,
-      mapping_next a.n a.ids.now c.loop-base.i c.loop-base.base c.loop-base.invariant.0 c.loop-base.invariant.1 c.chunk_width-width.result c.map_chunk-c.result c.map_chunk-c.ensures,
+      mapping_next a.set.n a.set.ids.now c.loop-base.i c.loop-base.base c.loop-base.invariant.0 c.loop-base.invariant.1 c.chunk_width-width.result c.map_chunk-c.result c.map_chunk-c.ensures,
       wrote_then a.out.now c.loop-base.out a.w c.loop-base.written c.loop-base.invariant.0 c.loop-base.invariant.2 c.push-written.new.out c.push-written.result (low_bits c.chunk_width-width.result c.map_chunk-c.result.word) c.push-written.ensures,
     )
 
@@ -40,4 +40,4 @@ shape_of-out c = c.loop-base.invariant.2.size
 pub returns : goal.returns
 returns c =
     let a = c.args in
-    subst (Wrote a.out.now c.loop-base.out a.w c.loop-base.written) (sym (mapping_end a.n a.ids.now c.loop-base.i c.loop-base.base c.loop-base.invariant.0 c.loop-base.invariant.1 (omega arith))) c.loop-base.invariant.2
+    subst (Wrote a.out.now c.loop-base.out a.w c.loop-base.written) (sym (mapping_end a.set.n a.set.ids.now c.loop-base.i c.loop-base.base c.loop-base.invariant.0 c.loop-base.invariant.1 (omega arith))) c.loop-base.invariant.2

@@ -7,7 +7,7 @@ use Rattle.codec.proofs.Laws.Bitmaps.{Mapping}
 use Rattle.codec.proofs.bitmap.write_map.Given as goal
 
 abbrev pub invariant-loop-base : goal.invariant-loop-base
-invariant-loop-base l = (done : List Bool) × Mapping l.n l.ids l.i l.base done × Wrote l.initial.out l.out l.initial.written l.written done
+invariant-loop-base l = (done : List Bool) × Mapping l.set.n l.set.ids.now l.i l.base done × Wrote l.initial.out l.out l.initial.written l.written done
 
 abbrev pub decreases-loop-base : goal.decreases-loop-base
-decreases-loop-base l = l.n - l.base
+decreases-loop-base l = l.set.n - l.base

@@ -19,7 +19,7 @@ done out old at bytes h e d =
     (sym (length-take-le at out h) ∙ ap length e, sym (take-append-drop at out) ∙ ap₂ (λ (x y : List ℕ). x ++ y) e d)
 
 pub loop-left-init : goal.loop-left-init
-loop-left-init c = (refl, c.requires.0.small, omega arith, refl, c.requires.1, refl)
+loop-left-init c = (refl, c.requires.small, omega arith, refl, λ i. (c.type_inv.out i).fits, refl)
 
 pub loop-left-preserved : goal.loop-left-preserved
 loop-left-preserved c =

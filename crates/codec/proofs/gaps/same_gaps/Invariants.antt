@@ -1,4 +1,4 @@
--- `codec::gaps::same_gaps` meets its contract. The loop's invariant: the bits of the ids given stand there.
+-- `gaps::same_gaps` meets its contract. The loop's invariant: the bits of the ids given stand there.
 use Prim.Native.Nat.{◌-◌, ◌*◌, ◌≤◌}
 use mathlib.Core.Path.{◌≡◌}
 use mathlib.Core.Bool.{Bool}
@@ -9,7 +9,7 @@ use Rattle.codec.proofs.Laws.Coded.{Coding}
 use Rattle.codec.proofs.gaps.same_gaps.Given as goal
 
 abbrev pub invariant-loop-id : goal.invariant-loop-id
-invariant-loop-id l = (done : List Bool) × Coding l.dense l.n l.ids l.c done × (drop l.at (bits_of l.bytes) ≡ done ++ drop l.place (bits_of l.bytes)) × (l.place ≤ 8 * length l.bytes)
+invariant-loop-id g l = (done : List Bool) × Coding g.C.CodedIds.dense l.set.n l.set.ids.now l.c done × (drop l.at (bits_of l.bytes) ≡ done ++ drop l.place (bits_of l.bytes)) × (l.place ≤ 8 * length l.bytes)
 
 abbrev pub decreases-loop-id : goal.decreases-loop-id
-decreases-loop-id l = l.n - l.c.from
+decreases-loop-id g l = l.set.n - l.c.from

@@ -1,68 +1,53 @@
--- `codec::records::is_color_record` meets its contract.
+-- `records::is_color_record` meets its contract.
 use Prim.Native.Nat.{ℕ, ◌+◌, ◌-◌}
 use mathlib.Core.Path.{◌≡◌, sym, ap, ◌∙◌}
-use mathlib.Core.Bool.{true, false}
 use native.Mathlib.Omega.{arith}
 use lib.ListN.{take, drop, length-take, length-drop}
-use Rattle.base.proofs.Tests.{when_yes, when_no}
-use Rattle.codec.specs.Sets.{within, decode_set}
+use Rattle.codec.specs.Sets.{decode_set}
 use Rattle.codec.specs.Inside.Payloads.{gives_set}
-use Rattle.codec.specs.Records.{bad_colors, is_record}
 use Rattle.codec.proofs.Laws.Prefix.{prefix_behind}
-use Rattle.codec.proofs.Laws.Records.{within_ids}
-use Rattle.codec.proofs.Laws.Encoded.{good_colors}
-use Rattle.codec.proofs.Laws.Compared.{gives_none, gives_refused, gives_cut, gives_payload}
+use Rattle.codec.proofs.Laws.Colors.{turned_is, taken_is}
+use Rattle.codec.proofs.Laws.Compared.{gives_refused, gives_cut, gives_payload}
 use Rattle.codec.proofs.records.is_color_record.Goals as goal
 
-pub returns-then-bad_colors : goal.returns-then-bad_colors
-unfolding is_record
-returns-then-bad_colors c = sym (when_yes _ _ _ (sym c.bad_colors.ensures ∙ c.if-bad_colors.true))
-
-pub returns-then-not-is_ascending : goal.returns-then-not-is_ascending
-unfolding is_record
-returns-then-not-is_ascending c =
-    let a = c.args in
-    sym (when_no _ _ _ (sym c.bad_colors.ensures ∙ c.if-bad_colors.false) ∙ gives_none a.n a.ids.now a.input.now (λ j. (c.type_inv.input j).fits) (sym c.is_ascending.ensures ∙ c.if-not-is_ascending.true))
-
 pub returns-in_default : goal.returns-in_default
-unfolding is_record
-returns-in_default c =
-    let colors : bad_colors c.args.n ≡ false = sym c.bad_colors.ensures ∙ c.if-bad_colors.false in
-    let a = c.args in
-    sym (when_no _ _ _ colors ∙ gives_refused a.n a.ids.now a.input.now c.in_default.field-0 c.in_default.ensures)
+returns-in_default c = sym (turned_is c.args.n c.args.ids.now _ c.in_default.ensures.refused c.args.input.now (λ j. (c.type_inv.input j).fits))
+
+pub returns-in_default-read_varint_len : goal.returns-in_default-read_varint_len
+returns-in_default-read_varint_len c =
+    let s = c.in-Ok.set in
+    let input = c.args.input.now in
+    rw (← c.in-Ok.ensures.taken.0, ← c.in-Ok.ensures.taken.1) (sym (taken_is s.n s.ids.now s.some s.few s.within input ∙ gives_refused s.n s.ids.now input c.in_default-read_varint_len.field-0 c.in_default-read_varint_len.ensures))
 
 pub overflow_sub-input : goal.overflow_sub-input
-overflow_sub-input c = (prefix_behind c.args.input.now c.in-Ok.field-0.value c.in-Ok.field-0.len c.in-Ok.ensures).1
+overflow_sub-input c = let p = c.in-Ok-read_varint_len.field-0 in (prefix_behind c.args.input.now p.value p.len c.in-Ok-read_varint_len.ensures).1
 
 pub returns-then-input-len : goal.returns-then-input-len
-unfolding is_record
 returns-then-input-len c =
-    let prefixed = prefix_behind c.args.input.now c.in-Ok.field-0.value c.in-Ok.field-0.len c.in-Ok.ensures in
-    let colors : bad_colors c.args.n ≡ false = sym c.bad_colors.ensures ∙ c.if-bad_colors.false in
-    let a = c.args in
-    sym (when_no _ _ _ colors ∙ gives_cut a.n a.ids.now a.input.now c.in-Ok.field-0.value (drop c.in-Ok.field-0.len a.input.now) prefixed.0 (omega (arith, length-drop c.in-Ok.field-0.len a.input.now)))
+    let s = c.in-Ok.set in
+    let input = c.args.input.now in
+    let p = c.in-Ok-read_varint_len.field-0 in
+    let prefixed = prefix_behind input p.value p.len c.in-Ok-read_varint_len.ensures in
+    rw (← c.in-Ok.ensures.taken.0, ← c.in-Ok.ensures.taken.1)
+    (sym (taken_is s.n s.ids.now s.some s.few s.within input ∙ gives_cut s.n s.ids.now input p.value (drop p.len input) prefixed.0 (omega (arith, length-drop p.len input))))
 
 pub slice_bounds-same_set-end : goal.slice_bounds-same_set-end
 slice_bounds-same_set-end c =
-    let prefixed = prefix_behind c.args.input.now c.in-Ok.field-0.value c.in-Ok.field-0.len c.in-Ok.ensures in
-    omega (arith, prefixed.1)
+    let p = c.in-Ok-read_varint_len.field-0 in
+    omega (arith, (prefix_behind c.args.input.now p.value p.len c.in-Ok-read_varint_len.ensures).1)
 
 pub same_set-requires : goal.same_set-requires
 same_set-requires c =
-    let ascend : within 0 c.args.n c.args.ids.now ≡ true = sym c.is_ascending.ensures ∙ c.if-not-is_ascending.false in
-    let colors : bad_colors c.args.n ≡ false = sym c.bad_colors.ensures ∙ c.if-bad_colors.false in
-    let prefixed = prefix_behind c.args.input.now c.in-Ok.field-0.value c.in-Ok.field-0.len c.in-Ok.ensures in
-    let a = c.args in
-    (within_ids 0 a.n a.ids.now ascend, (good_colors a.n colors).1, simp length-take (omega (arith, prefixed.2)))
+    let p = c.in-Ok-read_varint_len.field-0 in
+    simp length-take (omega (arith, (prefix_behind c.args.input.now p.value p.len c.in-Ok-read_varint_len.ensures).2))
 
 pub returns : goal.returns
-unfolding is_record
 returns c =
-    let prefixed = prefix_behind c.args.input.now c.in-Ok.field-0.value c.in-Ok.field-0.len c.in-Ok.ensures in
-    let colors : bad_colors c.args.n ≡ false = sym c.bad_colors.ensures ∙ c.if-bad_colors.false in
-    let a = c.args in
-    let v = c.in-Ok.field-0.value in
-    let len = c.in-Ok.field-0.len in
-    let n : len + v - len ≡ v = omega arith in
-    c.same_set.ensures ∙ ap (λ (m : ℕ). gives_set (decode_set a.n (take m (drop len a.input.now))) a.ids.now) n
-    ∙ sym (when_no _ _ _ colors ∙ gives_payload a.n a.ids.now a.input.now v (drop len a.input.now) prefixed.0 (omega (arith, length-drop len a.input.now)))
+    let s = c.in-Ok.set in
+    let input = c.args.input.now in
+    let p = c.in-Ok-read_varint_len.field-0 in
+    let prefixed = prefix_behind input p.value p.len c.in-Ok-read_varint_len.ensures in
+    let n : p.len + p.value - p.len ≡ p.value = omega arith in
+    rw (← c.in-Ok.ensures.taken.0, ← c.in-Ok.ensures.taken.1)
+    (c.same_set.ensures ∙ ap (λ (m : ℕ). gives_set (decode_set s.n (take m (drop p.len input))) s.ids.now) n
+    ∙ sym (taken_is s.n s.ids.now s.some s.few s.within input ∙ gives_payload s.n s.ids.now input p.value (drop p.len input) prefixed.0 (omega (arith, length-drop p.len input))))

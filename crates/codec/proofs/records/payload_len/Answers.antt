@@ -7,4 +7,4 @@ use Rattle.codec.proofs.records.payload_len.Goals as goal
 pub returns : goal.returns
 returns c =
     let a = c.args in
-    ap bytes_for c.set_len.ensures.0 ∙ sym (length_payload a.n a.ids.now)
+    ap bytes_for c.set_len.ensures.0 ∙ sym (length_payload a.set.n a.set.ids.now)

@@ -10,11 +10,12 @@ use Rattle.codec.proofs.records.write_short.Goals as goal
 pub encode_source_set-len-requires : goal.encode_source_set-len-requires
 encode_source_set-len-requires c =
     let a = c.args in
-    let out = a.out.now in record { within = (c.requires.0, omega arith, bytes_tail 1 out (λ i. (c.slice_known-1.given i).fits)); ids_in_bounds = rw (tail_is 1 out) (omega (arith, payload_short a.n a.ids.now c.requires.1 c.requires.0, length-drop 1 out)) }
+    let out = a.out.now in
+    rw (tail_is 1 out) (omega (arith, payload_short a.set.n a.set.ids.now c.requires.0 a.set.within, length-drop 1 out))
 
 pub overflow_cast-out : goal.overflow_cast-out
 overflow_cast-out c =
-    let short : c.encode_source_set-len.result < 128 = omega (arith, c.encode_source_set-len.ensures.0, payload_short c.args.n c.args.ids.now c.requires.1 c.requires.0) in
+    let short : c.encode_source_set-len.result < 128 = omega (arith, c.encode_source_set-len.ensures.0, payload_short c.args.set.n c.args.set.ids.now c.requires.0 c.args.set.within) in
     omega (arith, short)
 
 pub bounds-out-0 : goal.bounds-out-0
@@ -23,15 +24,15 @@ bounds-out-0 c =
 
 pub overflow_add-result : goal.overflow_add-result
 overflow_add-result c =
-    let short : c.encode_source_set-len.result < 128 = omega (arith, c.encode_source_set-len.ensures.0, payload_short c.args.n c.args.ids.now c.requires.1 c.requires.0) in
+    let short : c.encode_source_set-len.result < 128 = omega (arith, c.encode_source_set-len.ensures.0, payload_short c.args.set.n c.args.set.ids.now c.requires.0 c.args.set.within) in
     omega (arith, short)
 
 pub returns : goal.returns
 returns c =
-    let short : c.encode_source_set-len.result < 128 = omega (arith, c.encode_source_set-len.ensures.0, payload_short c.args.n c.args.ids.now c.requires.1 c.requires.0) in
+    let short : c.encode_source_set-len.result < 128 = omega (arith, c.encode_source_set-len.ensures.0, payload_short c.args.set.n c.args.set.ids.now c.requires.0 c.args.set.within) in
     let a = c.args in
     let r = c.encode_source_set-len.result in (
-      short_length a.n r a.ids.now c.encode_source_set-len.ensures.0 short,
+      short_length a.set.n r a.set.ids.now c.encode_source_set-len.ensures.0 short,
       omega (arith, short),
-      short_put a.n r a.ids.now c.encode_source_set-len.ensures.0 short a.out.now c.encode_source_set-len.new.out (omega arith) c.encode_source_set-len.ensures.1,
+      short_put a.set.n r a.set.ids.now c.encode_source_set-len.ensures.0 short a.out.now c.encode_source_set-len.new.out (omega arith) c.encode_source_set-len.ensures.1,
     )

@@ -8,6 +8,3 @@ use Rattle.codec.proofs.sets.has_fall.Given as goal
 
 abbrev pub invariant-loop-i : goal.invariant-loop-i
 invariant-loop-i l = (0 < l.i) × (l.i ≤ length l.ids) × ((has_fall (get_or l.ids 0 0) (drop 1 l.ids)) ≡ (l.found || has_fall (get_or l.ids (l.i - 1) 0) (drop l.i l.ids)))
-
-abbrev pub decreases-loop-i : goal.decreases-loop-i
-decreases-loop-i l = length l.ids - l.i

@@ -1,0 +1,33 @@
+// A colour count and ids below it, as every record has them.
+ghost use Rattle.std.specs.Prelude.{◌≡◌, ◌≤◌, ◌^◌, IfOk, IfErr};
+ghost use Rattle.base.specs.Answers.{number_of};
+ghost use Rattle.codec.specs.Sets.{Within};
+ghost use Rattle.codec.specs.Inside.Colors.{Within-prop, Turned};
+
+use base::Refusal;
+
+// Ids that ascend strictly, all below a colour count inside its limits.
+#[derive(Clone, Copy)]
+pub(crate) struct ColorSet<'a> {
+    pub(crate) n: u32,
+    pub(crate) ids: &'a [u32],
+    ghost some: { 1 ≤ n },
+    ghost few: { n ≤ 2 ^ 20 },
+    ghost within: { Within 0 n ids.now } by { Within-prop 0 n ids.now },
+}
+
+impl<'a> ColorSet<'a> {
+    // The colour count is tested before the ids.
+    pub(crate) fn new(n: u32, ids: &'a [u32]) -> Result<Self, Refusal>
+        ensures taken { IfOk result (λ s. (s.n ≡ n) × (s.ids ≡ ids.entry)) }
+        ensures refused { IfErr result (λ r. Turned n ids.now (number_of r)) }
+    {
+        if crate::records::bad_colors(n) {
+            return Err(Refusal::Colors);
+        }
+        if !crate::sets::is_ascending(ids, n) {
+            return Err(Refusal::Ids);
+        }
+        Ok(Self { n, ids })
+    }
+}
