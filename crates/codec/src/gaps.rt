@@ -70,6 +70,7 @@ fn skip_last(set: ColorSet, c: Cursor, low: usize) -> usize
 
 // How many ids from the cursor on go up by one from its number, eight at a time: as they ascend, the last
 // of eight tells.
+#[inline(always)]
 fn skip_present(set: ColorSet, c: Cursor) -> usize
     requires { Ahead set.n set.ids.now c }
     ensures { Skipped set.entry.n set.entry.ids.now c.i c.from result × Within (c.from + result + 1) set.entry.n (drop (c.i + result) set.entry.ids.now) }
@@ -87,6 +88,7 @@ fn skip_present(set: ColorSet, c: Cursor) -> usize
 impl CodedIds for Present {
     ghost dense = { false };
 
+    #[inline(always)]
     fn next_id(set: ColorSet, c: Cursor) -> Option<NextId> {
         if set.ids.len() <= c.i {
             return None;
@@ -105,6 +107,7 @@ impl CodedIds for Present {
 impl CodedIds for Absent {
     ghost dense = { true };
 
+    #[inline(always)]
     fn next_id(set: ColorSet, c: Cursor) -> Option<NextId> {
         let k = skip_present(set, c);
         let id = c.from + k as u32;
