@@ -69,7 +69,7 @@ fn skip_last(set: ColorSet, c: Cursor, low: usize) -> usize
 }
 
 // How many ids from the cursor on go up by one from its number, eight at a time: as they ascend, the last
-// of eight tells.
+// of eight tells. Each loop over absent ids holds this code itself, as a call of its own slows it.
 #[inline(always)]
 fn skip_present(set: ColorSet, c: Cursor) -> usize
     requires { Ahead set.n set.ids.now c }

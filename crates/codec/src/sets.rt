@@ -209,7 +209,9 @@ pub(crate) fn same_body(set: ColorSet, payload: &[u8], at: usize) -> Option<usiz
     }
 }
 
-// Whether the payload is the one written for these ids.
+// Whether the payload is the one written for these ids. It stands alone in the machine code, so that the loops in
+// it have the registers.
+#[inline(never)]
 pub(crate) fn same_set(set: ColorSet, payload: &[u8]) -> bool
     requires { length payload.now < 2 ^ 60 }
     ensures { result ≡ gives_set (decode_set set.entry.n payload.now) set.entry.ids.now }

@@ -1,9 +1,8 @@
 -- Laws of a colour count and the ids of a set: what the operations answer where these are turned down, and where they are taken.
 use Prim.Native.Nat.{ℕ, ◌^◌, ◌≤◌, ◌<◌}
-use mathlib.Core.Path.{◌≡◌, refl, sym, ap, ◌∙◌}
-use mathlib.Core.Bool.{true, false}
+use mathlib.Core.Path.{◌≡◌, sym, ap, ◌∙◌}
+use mathlib.Core.Bool.{false}
 use mathlib.Core.List.{List, [], ◌∷◌}
-use Rattle.std.specs.Prelude.{◌⊎◌}
 use Rattle.std.proofs.Common.{⊎_elim}
 use lib.ListN.{length}
 use borrow.Author.Tests.{lt-ltb, le-ltb}
@@ -12,9 +11,9 @@ use Rattle.base.specs.Parts.{over}
 use Rattle.base.proofs.Bools.{not_yes, not_no}
 use Rattle.base.proofs.Tests.{when_yes, when_no}
 use Rattle.codec.specs.Bits.{AreBytes}
-use Rattle.codec.specs.Sets.{Within, within}
+use Rattle.codec.specs.Sets.{Within}
 use Rattle.codec.specs.Inside.Colors.{Turned}
-use Rattle.codec.specs.Records.{bad_colors, record_of, read_record, write_record, record_length, gives_ids, is_record}
+use Rattle.codec.specs.Records.{record_of, read_record, write_record, record_length, gives_ids, is_record}
 use Rattle.codec.proofs.Laws.Reading.{in_limits}
 use Rattle.codec.proofs.Laws.Compared.{within_all, gives_none}
 

@@ -1,5 +1,5 @@
 -- A colour count and the ids of a set, and why they are turned down.
-use Rattle.std.specs.Prelude.{ℕ, suc, ◌+◌, ◌≤◌, ◌<◌, ◌≡◌, ◌⊎◌, true, false, List, [], ◌∷◌}
+use Rattle.std.specs.Prelude.{ℕ, ◌+◌, ◌≤◌, ◌<◌, ◌≡◌, ◌⊎◌, true, false, List, [], ◌∷◌}
 use Rattle.std.specs.Coded.{le_prop}
 use mathlib.Core.Path.{refl, ap, ap₂, ◌∙◌}
 use Rattle.codec.specs.Records.{bad_colors}

@@ -1,7 +1,5 @@
-use Prim.Native.Nat.{◌+◌, ◌≤◌}
 use native.Mathlib.Omega.{arith}
-use lib.ListN.{get_or}
-use Rattle.codec.proofs.Laws.Coded.{skipped_none, skipped_eight, skipped_high, counted_all}
+use Rattle.codec.proofs.Laws.Coded.{skipped_none, skipped_eight, counted_all}
 use Rattle.codec.proofs.gaps.skip_present.Goals as goal
 
 pub loop-k-init : goal.loop-k-init

@@ -3,7 +3,6 @@ use Prim.Native.Nat.{ℕ, ◌-◌}
 use mathlib.Core.Path.{sym, subst}
 use mathlib.Core.List.{[], ◌++◌}
 use native.Mathlib.Omega.{arith}
-use lib.ListN.{length}
 use Rattle.codec.specs.Codes.{delta}
 use Rattle.codec.specs.Inside.Writers.{Wrote}
 use Rattle.codec.proofs.Laws.Coded.{coding_start, coding_next, coding_end, coding_room}

@@ -4,7 +4,7 @@ use native.Mathlib.Omega.{arith}
 use lib.ListN.{length-drop}
 use Rattle.codec.proofs.Laws.Sizes.{payload_short}
 use Rattle.base.proofs.Parts.{tail_is}
-use Rattle.codec.proofs.Laws.Encoded.{bytes_tail, short_room, short_length, short_put}
+use Rattle.codec.proofs.Laws.Encoded.{short_room, short_length, short_put}
 use Rattle.codec.proofs.records.write_short.Goals as goal
 
 pub encode_source_set-len-requires : goal.encode_source_set-len-requires
