@@ -17,3 +17,4 @@ pub mod Bytes
 pub mod Widths
 pub mod Claims
 pub mod Readings
+pub mod Numbered

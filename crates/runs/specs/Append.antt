@@ -1,5 +1,5 @@
 -- Section 6 of 01: append. A piece behind an output: the piece's first vertex is the output's last.
-use Rattle.std.specs.Prelude.{ℕ, ◌+◌, ◌-◌, Bool, not, ◌||◌, ◌&&◌, List, [], ◌∷◌, ◌++◌, map, length, take, drop, ltb, eqb}
+use Rattle.std.specs.Prelude.{ℕ, ◌+◌, ◌-◌, Bool, not, ◌||◌, ◌&&◌, List, [], ◌∷◌, ◌++◌, map, length, take, drop, ltb, eqb, Result, Ok, Err}
 use Rattle.base.specs.Tests.{◌when◌else◌}
 use Rattle.base.specs.Answers.{Answer, refused, done, number_of}
 use Rattle.base.specs.Parts.{over}
@@ -7,13 +7,13 @@ use Rattle.runs.specs.Words.{offset, coordinate, pack}
 use Rattle.runs.specs.Colours.{last_run, first_coord, last_coord}
 use Rattle.runs.specs.Orders.{most_vertices, steady, sharp}
 use Rattle.runs.specs.Reverse.{oriented}
+use Rattle.base.specs.declared.Refusal.{Refusal}
 use Rattle.runs.specs.declared.append.Appended.{Appended}
-use Rattle.runs.specs.declared.append.Appended.TheVariants.{Done, Refused}
 
 -- the new number of runs, and the new vertex count
-abbrev pub of_appended : Appended → Answer
-of_appended (Done runs vertices) = done (runs ∷ vertices ∷ [])
-of_appended (Refused r) = refused (number_of r)
+abbrev pub of_appended : Result Appended Refusal → Answer
+of_appended (Ok a) = done (a.runs ∷ a.vertices ∷ [])
+of_appended (Err r) = refused (number_of r)
 
 -- runs k vertices further on
 abbrev pub shift : ℕ → ℕ → ℕ

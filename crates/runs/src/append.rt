@@ -2,102 +2,76 @@
 ghost use Rattle.std.specs.Prelude.{◌≡◌, ◌+◌, ◌-◌, ◌<◌, ◌≤◌, length, take, drop};
 ghost use Rattle.std.proofs.Math.Seq.{paste};
 ghost use Rattle.runs.specs.Colours.{last_coord};
-ghost use Rattle.runs.specs.Inside.Lists.{Taken};
-ghost use Rattle.runs.specs.Reverse.{oriented};
+ghost use Rattle.runs.specs.Inside.Oriented.{list_of};
 ghost use Rattle.runs.specs.Append.{of_appended, shifted, skip, append_runs, bad_counts, joinable, result_into, append_into};
 ghost use Rattle.runs.specs.Inside.Pieces.{Admitted};
 
-use crate::{orders, reverse, words};
+use crate::oriented::Oriented;
+use crate::{orders, words};
 use base::Refusal;
 
 // How many runs and vertices the output has now.
-#[derive(Clone, Copy)]
-pub enum Appended {
-    Done { runs: usize, vertices: u32 },
-    Refused(Refusal),
+#[derive(Clone, Copy, Debug, PartialEq, Eq)]
+pub struct Appended {
+    pub runs: usize,
+    pub vertices: u32,
 }
 
+#[tactic(auto, unfolding(crate::specs::Append::bad_counts))]
 fn bad_counts(a: u32, b: u32) -> bool
     ensures { result ≡ bad_counts a b }
 {
-    if a == 0 {
-        return true;
-    }
-    if b == 0 {
-        return true;
-    }
-    16777215 < a as u64 + b as u64 - 1
+    a == 0 || b == 0 || 16777215 < u64::from(a) + u64::from(b) - 1
 }
 
-// Whether a piece can stand behind the first runs of the output.
-fn is_joinable(runs: &[u64], used: usize, n: u32) -> bool
-    requires { used ≤ length runs.now }
-    ensures { result ≡ joinable n (take used runs.now) }
+// Whether a piece can stand behind the list.
+#[tactic(auto, unfolding(crate::specs::Append::joinable))]
+fn is_joinable(runs: &[u64], n: u32) -> bool
+    ensures { result ≡ joinable n runs.now }
 {
-    if used == 0 {
-        return false;
-    }
-    if !orders::is_steady(&runs[..used], n) {
-        return false;
-    }
-    words::offset(runs[used - 1]) < n
+    !runs.is_empty()
+        && orders::is_steady(runs, n)
+        && words::offset(runs[runs.len() - 1]) < n
 }
 
-// How many runs of the oriented piece are dropped: 1 where its first coordinate is the output's last.
-fn skip_of(runs: &[u64], used: usize, piece: &[u64], n: u32, reversed: bool) -> usize
-    requires { (0 < used) × (used ≤ length runs.now) }
-    ensures { result ≡ skip (last_coord (take used runs.now)) (oriented reversed n piece.now) }
+// How many runs of the piece are dropped behind a list: 1 where its first coordinate is the list's last.
+#[tactic(auto, using(crate::proofs::Laws::Append::skip_yes, crate::proofs::Laws::Append::skip_no))]
+fn skip_of(runs: &[u64], piece: &Oriented) -> usize
+    requires { 0 < length piece.now.runs.now }
+    ensures { result ≡ skip (last_coord runs.now) (list_of piece.now) }
 {
-    let last = words::coordinate(runs[used - 1]);
-    let first = reverse::first_coordinate(piece, n, reversed);
-    if last == first {
-        return 1;
-    }
-    0
+    let last = orders::last_coordinate(runs);
+    let first = words::coordinate(piece.run_at(0));
+    if last == first { 1 } else { 0 }
 }
 
 // The piece's runs from `from` on behind the output's, `shift` vertices further on.
-fn fill_appended(
-    out: &mut [u64],
-    used: usize,
-    shift: u32,
-    piece: &[u64],
-    n: u32,
-    reversed: bool,
-    from: usize,
-)
-    requires { Taken n piece.now × (shift + n < 16777216) × (from ≤ 1) × (from ≤ length piece.now) × (used + (length piece.now - from) ≤ length out.old) }
-    ensures { out.new ≡ paste out.old used (shifted shift (drop from (oriented reversed n piece.now))) (length piece.now - from) }
+fn fill_appended(out: &mut [u64], used: usize, shift: u32, piece: &Oriented, from: usize)
+    requires { (shift + piece.now.n < 16777216) × (from ≤ 1) × (0 < length piece.now.runs.now) × (used + (length piece.now.runs.now - from) ≤ length out.old) }
+    ensures { out.new ≡ paste out.old used (shifted shift (drop from (list_of piece.now))) (length piece.now.runs.now - from) }
 {
     if from == 0 {
-        reverse::fill_oriented(piece, n, shift, reversed, &mut out[used..]);
-        return;
+        piece.fill(shift, &mut out[used..]);
+    } else {
+        piece.fill_rest(shift, &mut out[used..]);
     }
-    reverse::fill_rest(piece, n, shift, reversed, &mut out[used..]);
 }
 
 // The piece behind the output, where both are as admitted.
-fn append_admitted(
-    out: &mut [u64],
-    used: usize,
-    out_count: u32,
-    piece: &[u64],
-    piece_count: u32,
-    reversed: bool,
-) -> Appended
-    requires { Admitted out.old used out_count piece.now piece_count }
-    ensures { (of_appended result, out.new) ≡ result_into (append_runs (take used out.old) out_count piece.now piece_count reversed) (out_count + piece_count - 1) out.old }
+fn append_admitted(out: &mut [u64], used: usize, out_count: u32, piece: &Oriented) -> Result<Appended, Refusal>
+    requires { Admitted out.old used out_count piece.now.runs.now piece.now.n }
+    ensures { (of_appended result, out.new) ≡ result_into (append_runs (take used out.old) out_count piece.now.runs.now piece.now.n piece.now.reversed) (out_count + piece.now.n - 1) out.old }
 {
-    let from = skip_of(out, used, piece, piece_count, reversed);
-    let total = used + (piece.len() - from);
+    let from = skip_of(&out[..used], piece);
+    let total = used + (piece.runs.len() - from);
     if out.len() < total {
-        return Appended::Refused(Refusal::Space);
+        return Err(Refusal::Space);
     }
-    fill_appended(out, used, out_count - 1, piece, piece_count, reversed, from);
-    Appended::Done {
+    fill_appended(out, used, out_count - 1, piece, from);
+    Ok(Appended {
         runs: total,
-        vertices: out_count + (piece_count - 1),
-    }
+        vertices: out_count + (piece.n - 1),
+    })
 }
 
 // Append a piece behind the `used` runs of the output, which has `out_count` vertices.
@@ -108,20 +82,25 @@ pub fn append_color_runs(
     piece: &[u64],
     piece_count: u32,
     reversed: bool,
-) -> Appended
+) -> Result<Appended, Refusal>
     ensures { (of_appended result, out.new) ≡ append_into out.old used out_count piece.now piece_count reversed }
 {
     if out.len() < used {
-        return Appended::Refused(Refusal::Space);
+        return Err(Refusal::Space);
     }
     if bad_counts(out_count, piece_count) {
-        return Appended::Refused(Refusal::Vertices);
+        return Err(Refusal::Vertices);
     }
-    if !is_joinable(out, used, out_count) {
-        return Appended::Refused(Refusal::Runs);
+    if !is_joinable(&out[..used], out_count) {
+        return Err(Refusal::Runs);
     }
     if !orders::is_sharp(piece, piece_count) {
-        return Appended::Refused(Refusal::Runs);
+        return Err(Refusal::Runs);
     }
-    append_admitted(out, used, out_count, piece, piece_count, reversed)
+    let oriented = Oriented {
+        runs: piece,
+        n: piece_count,
+        reversed,
+    };
+    append_admitted(out, used, out_count, &oriented)
 }

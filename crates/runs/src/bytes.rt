@@ -6,13 +6,13 @@ ghost use Rattle.codec.specs.Flat.{flat};
 ghost use Rattle.codec.specs.Prefix.{prefix_of, whole};
 ghost use Rattle.runs.specs.Colours.{colour_at};
 ghost use Rattle.runs.specs.Orders.{sharp};
-ghost use Rattle.runs.specs.Inside.Lists.{Taken};
-ghost use Rattle.runs.specs.Reverse.{oriented};
-ghost use Rattle.runs.specs.Inside.Cursor.{runs_from_step};
+ghost use Rattle.runs.specs.Inside.Turned.{ahead};
 ghost use Rattle.runs.specs.Bytes.{le_bytes, le_value, run_bytes, words, write_runs, given_in, after_count, read_runs, read_runs_into, write_rotated, of_colored, sharp_colour_in, sharp_colour};
 ghost use Rattle.codec.specs.Inside.Prefixes.{up_given};
 ghost use Rattle.runs.specs.Inside.Prefixes.{up_colored};
 
+use crate::oriented::Oriented;
+use crate::turned::Turned;
 use crate::{orders, rotate, words};
 use base::{Given, Refusal, Written};
 use codec::prefix::Prefix;
@@ -84,22 +84,13 @@ pub fn write_unitig_color_runs(runs: &[u64], out: &mut [u8]) -> Written
     Written::Done(total)
 }
 
-// The turned cycle's `count` runs, eight bytes each, to the front of `out`.
-fn fill_turned_bytes(runs: &[u64], n: u32, p: u32, reversed: bool, count: usize, out: &mut [u8])
-    requires taken { Taken n runs.now × (p ≤ n) × (8 * count ≤ length out.old) }
-    requires count_value { count ≡ length (runs_from_step n p (oriented reversed n runs.now) 0 0) }
-    ensures { out.new ≡ over (flat (le_bytes 8) (runs_from_step n p (oriented reversed n runs.now) 0 0)) out.old }
+// The turned cycle's runs, eight bytes each, to the front of `out`.
+fn fill_turned_bytes(cycle: Turned, out: &mut [u8])
+    requires { 8 * length (ahead cycle) ≤ length out.old }
+    ensures { out.new ≡ over (flat (le_bytes 8) (ahead cycle.entry)) out.old }
 {
-    let mut j: usize = 0;
-    let mut colour: u64 = 0;
-    let mut i: usize = 0;
-    while i < count {
-        let s = rotate::next_step(runs, n, p, reversed, j, colour);
-        let q = rotate::part_at(runs, n, p, reversed, s);
-        put_word(out, 8 * i, words::pack(q.begin, q.colour));
-        colour = q.colour;
-        j = s + 1;
-        i += 1;
+    for (i, run) in cycle.enumerate() {
+        put_word(out, 8 * i, run);
     }
 }
 
@@ -119,25 +110,25 @@ pub fn write_rotated_runs(
     if !orders::is_steady(runs, n) {
         return Written::Refused(Refusal::Runs);
     }
-    let p = rotate::pivot_of(pivot, n);
-    let count = rotate::count_turned(runs, n, p, reversed);
+    let cycle = rotate::turned(Oriented { runs, n, reversed }, pivot);
+    let count = rotate::count(cycle);
     let total = bytes_for(count);
     if out.len() < total {
         return Written::Refused(Refusal::Space);
     }
-    write_turned(runs, n, p, reversed, count, out);
+    write_turned(cycle, count, out);
     Written::Done(total)
 }
 
 // The turned cycle's `count` runs as bytes to the front of `out`.
-fn write_turned(runs: &[u64], n: u32, p: u32, reversed: bool, count: usize, out: &mut [u8])
-    requires taken { Taken n runs.now × (p ≤ n) × (count < 4294967296) × (length (prefix_of count) + 8 * count ≤ length out.old) }
-    requires count_value { count ≡ length (runs_from_step n p (oriented reversed n runs.now) 0 0) }
-    ensures { out.new ≡ over (run_bytes (runs_from_step n p (oriented reversed n runs.now) 0 0)) out.old }
+fn write_turned(cycle: Turned, count: usize, out: &mut [u8])
+    requires taken { (count < 4294967296) × (length (prefix_of count) + 8 * count ≤ length out.old) }
+    requires count_value { count ≡ length (ahead cycle) }
+    ensures { out.new ≡ over (run_bytes (ahead cycle.entry)) out.old }
 {
     let q = codec::prefix::varint_len(count as u32);
     codec::prefix::write_varint(count as u32, out);
-    fill_turned_bytes(runs, n, p, reversed, count, &mut out[q..]);
+    fill_turned_bytes(cycle, &mut out[q..]);
 }
 
 // A byte as a wide number.

@@ -3,8 +3,10 @@
 
 pub mod words; // a run as one number of 64 bits
 pub mod orders; // steady and sharp lists
+pub(crate) mod oriented; // a list from either end
 pub mod reverse; // a list from the other end
 pub(crate) mod swap; // the same in its own place
 pub mod append; // a piece behind an output
+pub(crate) mod turned; // the runs of a turned cycle
 pub mod rotate; // a cycle begun at another vertex
 pub mod bytes; // run bytes

@@ -2,7 +2,7 @@
 ghost use Rattle.std.specs.Prelude.{◌≡◌, ◌+◌, ◌-◌, ◌*◌, ◌<◌, ◌≤◌, length, eqb};
 ghost use Rattle.runs.specs.Colours.{end_at, last_coord};
 ghost use Rattle.runs.specs.Orders.{steady, sharp};
-ghost use Rattle.runs.specs.Inside.Falls.{fall, falls};
+ghost use Rattle.runs.specs.Inside.Falls.{fall, falls, spaced};
 
 use crate::words;
 
@@ -37,11 +37,9 @@ fn falls_in_eighths(runs: &[u64], step: u64, eighth: usize) -> u64
     ensures { result ≡ falls step runs.now 0 (8 * eighth) }
 {
     let mut count: u64 = 0;
-    let mut i: usize = 0;
-    while i < eighth {
+    for i in 0..eighth {
         count += falls_of_four(runs, step, i, eighth)
             + falls_of_four(runs, step, 4 * eighth + i, eighth);
-        i += 1;
     }
     count
 }
@@ -52,10 +50,8 @@ fn falls_from(runs: &[u64], step: u64, from: usize) -> u64
     ensures { result ≡ falls step runs.now from (length runs.now - 1 - from) }
 {
     let mut count: u64 = 0;
-    let mut i: usize = from;
-    while i + 1 < runs.len() {
+    for i in from..runs.len() - 1 {
         count += fall_at(runs, step, i);
-        i += 1;
     }
     count
 }
@@ -66,42 +62,34 @@ fn is_rising(runs: &[u64], step: u64) -> bool
     ensures { result ≡ eqb (falls step runs.now 0 (length runs.now - 1)) 0 }
 {
     let eighth = (runs.len() - 1) / 8;
-    if 0 < falls_in_eighths(runs, step, eighth) {
-        return false;
-    }
-    falls_from(runs, step, 8 * eighth) == 0
+    falls_in_eighths(runs, step, eighth) == 0 && falls_from(runs, step, 8 * eighth) == 0
+}
+
+// Whether the first run begins at vertex 0, each at least `step` vertices behind the one before it, and the last at least
+// `step` vertices before n.
+fn is_spaced(runs: &[u64], step: u64, n: u32) -> bool
+    requires { (step ≤ 1) × (0 < length runs.now) }
+    ensures { result ≡ spaced step n runs.now }
+{
+    words::offset(runs[0]) == 0
+        && is_rising(runs, step)
+        && u64::from(words::offset(runs[runs.len() - 1])) + step <= u64::from(n)
 }
 
 // Whether the list is steady for n vertices.
+#[tactic(auto, using(crate::proofs::Laws::Falls::steady_spaced, crate::proofs::Laws::Orders::steady_none))]
 pub fn is_steady(runs: &[u64], n: u32) -> bool
     ensures { result ≡ steady n runs.now }
 {
-    if runs.len() == 0 {
-        return true;
-    }
-    if words::offset(runs[0]) != 0 {
-        return false;
-    }
-    if !is_rising(runs, 0) {
-        return false;
-    }
-    words::offset(runs[runs.len() - 1]) <= n
+    runs.is_empty() || is_spaced(runs, 0, n)
 }
 
 // Whether the list is sharp for n vertices.
+#[tactic(auto, using(crate::proofs::Laws::Falls::sharp_spaced, crate::proofs::Laws::Orders::sharp_none))]
 pub fn is_sharp(runs: &[u64], n: u32) -> bool
     ensures { result ≡ sharp n runs.now }
 {
-    if runs.len() == 0 {
-        return false;
-    }
-    if words::offset(runs[0]) != 0 {
-        return false;
-    }
-    if !is_rising(runs, 1) {
-        return false;
-    }
-    words::offset(runs[runs.len() - 1]) < n
+    !runs.is_empty() && is_spaced(runs, 1, n)
 }
 
 // Where run i ends.
@@ -109,20 +97,12 @@ pub(crate) fn end_of(runs: &[u64], n: u32, i: usize) -> u32
     requires { i < length runs.now }
     ensures { result ≡ end_at n runs.now i }
 {
-    if i + 1 < runs.len() {
-        words::offset(runs[i + 1])
-    } else {
-        n
-    }
+    runs.get(i + 1).map_or(n, |next| words::offset(*next))
 }
 
 // The coordinate of the last run, or 0 where there is none.
 pub fn last_coordinate(runs: &[u64]) -> u64
     ensures { result ≡ last_coord runs.now }
 {
-    let m = runs.len();
-    if m == 0 {
-        return 0;
-    }
-    words::coordinate(runs[m - 1])
+    runs.last().map_or(0, |run| words::coordinate(*run))
 }

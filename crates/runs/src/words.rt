@@ -34,7 +34,7 @@ pub fn place(c: u64) -> u64
 pub fn coordinate_of(worker: u32, place: u32) -> u64
     ensures { result ≡ coordinate_of worker place }
 {
-    worker as u64 + 256 * (place as u64)
+    u64::from(worker) + 256 * u64::from(place)
 }
 
 // A run of both. The reference's `UnitigColor::new`.
@@ -42,7 +42,7 @@ pub(crate) fn pack(offset: u32, coordinate: u64) -> u64
     requires { (offset < 16777216) × (coordinate < 1099511627776) }
     ensures { result ≡ pack offset coordinate }
 {
-    offset as u64 + 16777216 * coordinate
+    u64::from(offset) + 16777216 * coordinate
 }
 
 // A run that ended at `end`, begun there from the other side.
@@ -50,7 +50,7 @@ pub(crate) fn flip(w: u64, n: u32, end: u32) -> u64
     requires { (end ≤ n) × (n < 16777216) }
     ensures { result ≡ pack (n - end) (coordinate w) }
 {
-    (n - end) as u64 + 16777216 * (w / 16777216)
+    u64::from(n - end) + 16777216 * (w / 16777216)
 }
 
 // A run that ended where `next` begins, begun there from the other side of `top` vertices.

@@ -12,17 +12,16 @@ use lib.Seq.{take-nil, drop-nil}
 use Rattle.base.proofs.Tests.{when_yes, when_no}
 use Rattle.runs.specs.Words.{offset, coordinate, pack}
 use Rattle.runs.specs.Colours.{next, end_at, colours}
-use Rattle.runs.specs.Orders.{most_vertices, steady}
 use Rattle.runs.specs.Inside.Lists.{Steady, Taken}
 use Rattle.runs.specs.Reverse.{oriented}
 use Rattle.runs.specs.Rotate.{turn_left, firsts, runs_at, merged, rotate_runs}
 use Rattle.runs.specs.Inside.Cursor.{begins, merged_from, turned, second_round, step_start, step_colour, runs_from_step, Parted, GivesRun, NextRun}
-use Rattle.runs.specs.declared.rotate.Part.{Part}
+use Rattle.runs.specs.declared.turned.Part.{Part}
 use Rattle.runs.proofs.Laws.Lists.{split_run, length_turn, turn_front, turn_back, drop_head}
-use Rattle.runs.proofs.Laws.Orders.{run_begins as begins-at, end_le, starts_zero, taken}
+use Rattle.runs.proofs.Laws.Orders.{run_begins as begins-at, end_le, starts_zero}
 use Rattle.runs.proofs.Laws.Colours.{length_colours, steady_long, steady_at}
 use Rattle.runs.proofs.Laws.Reverse.{oriented_steady}
-use Rattle.runs.proofs.Laws.Merge.{goes_on, gives, runs_merged, length_merged}
+use Rattle.runs.proofs.Laws.Merge.{goes_on, gives, runs_merged, length_merged, length_from}
 
 colour_first : (os : List ℕ) (j : ℕ) → j < length os → step_colour os j ≡ coordinate (get_or os j 0)
 unfolding step_colour
@@ -178,6 +177,19 @@ module _ (n p : ℕ) (os : List ℕ) (s : Steady n os) (inside : p ≤ n) where
   unfolding runs_from_step
   give j c h g = gives (turned n p os) (step_start n p os j) (step_start n p os (j + 1)) c (step_colour os j) (step j h).up (step j h).vertices g.0 g.1
 
+  -- what it makes of them, as the code finds it
+  module _ (j c : ℕ) (q : Part) (h : j < length os + length os) (part : Parted n p os j q) where
+    pub gave : q.begin < q.end → begins q.begin c q.colour ≡ true → runs_from_step n p os j c ≡ pack q.begin q.colour ∷ runs_from_step n p os (j + 1) q.colour
+    gave l b =
+        let same : begins (step_start n p os j) c (step_colour os j) ≡ true = ap₂ (λ (x y : ℕ). begins x c y) (sym part.starts) (sym part.coloured) ∙ b in
+        give j c h (omega (arith, part.starts, part.ends), same) ∙ ap₂ (λ (x y : ℕ). pack x y ∷ runs_from_step n p os (j + 1) y) (sym part.starts) (sym part.coloured)
+
+    pub passed_none : q.end ≤ q.begin → runs_from_step n p os j c ≡ runs_from_step n p os (j + 1) c
+    passed_none l = pass_none j c h (omega (arith, part.starts, part.ends))
+
+    pub passed_same : begins q.begin c q.colour ≡ false → runs_from_step n p os j c ≡ runs_from_step n p os (j + 1) c
+    passed_same b = pass_same j c h (ap₂ (λ (x y : ℕ). begins x c y) (sym part.starts) (sym part.coloured) ∙ b)
+
 -- behind the last step
 pub none_ahead : (n p : ℕ) (os : List ℕ) (j c : ℕ) → Steady n os → p ≤ n → length os + length os ≤ j → runs_from_step n p os j c ≡ []
 unfolding runs_from_step colours merged_from
@@ -263,15 +275,9 @@ rotate_few n pivot r ws t =
     let cs : List ℕ = colours n (oriented r n ws) in
     omega (arith, length_merged (turn_left (pivot % n) cs), turn_long (pivot % n) cs, length_colours n (oriented r n ws) (oriented_steady r n ws t.small t.list).up)
 
--- what the functions that turn a list know of it, when they have counted its runs
-pub record Turned (n pivot p : ℕ) (r : Bool) (ws : List ℕ) (k : ℕ) : Type 0 where
-  pub taken : Taken n ws
-  pub rotated : runs_from_step n p (oriented r n ws) 0 0 ≡ rotate_runs n pivot r ws
-  pub count : k ≡ length (rotate_runs n pivot r ws)
-  pub few : k < 16777216
-
-pub turned_of : (n pivot p : ℕ) (r : Bool) (ws : List ℕ) (k : ℕ) → n ≤ most_vertices → steady n ws ≡ true → p ≤ n → (0 < n → p ≡ pivot % n) → k ≡ length (runs_from_step n p (oriented r n ws) 0 0) → Turned n pivot p r ws k
-turned_of n pivot p r ws k small good l e c =
-    let t : Taken n ws = taken n ws small good in
-    let a : runs_from_step n p (oriented r n ws) 0 0 ≡ rotate_runs n pivot r ws = rotate_is n p pivot r ws t l e in
-    record { taken = t; rotated = a; count = c ∙ ap length a; few = omega (arith, c, ap length a, rotate_few n pivot r ws t) }
+-- nor has what is ahead of a step
+pub ahead_few : (n p : ℕ) (os : List ℕ) (j c : ℕ) → Steady n os → length (runs_from_step n p os j c) ≤ n
+unfolding runs_from_step
+ahead_few n p os j c s =
+    let k : ℕ = step_start n p os j in
+    omega (arith, length_from k c (drop k (turned n p os)), length-drop k (turned n p os), turn_long p (colours n os), length_colours n os s.up)

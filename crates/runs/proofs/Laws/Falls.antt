@@ -7,17 +7,17 @@ use native.Mathlib.Omega.{arith}
 use native.Mathlib.Decide.{dec_lt}
 use native.Mathlib.Nat.{add-zero, add-suc}
 use native.Mathlib.Numerals.{add-one}
-use borrow.Author.Tests.{leb-true, leb-false, ltb-true, ltb-false, eqb-true, eq-eqb, ne_eqb, lt-ltb, le-ltb}
+use borrow.Author.Tests.{leb-true, eqb-true, eq-eqb, ne_eqb, le-leb, lt-ltb, le-ltb}
 use lib.ListN.{length, get_or, drop_of_length-le}
-use lib.Dec.{leb, ltb, eqb}
+use lib.Dec.{ltb, eqb}
 use Rattle.base.specs.Tests.{◌when◌else◌}
 use Rattle.base.proofs.Tests.{when_yes, when_no}
-use Rattle.base.proofs.Bools.{false_true}
+use Rattle.base.proofs.Bools.{and_true, and_both}
 use Rattle.runs.specs.Words.{offset}
 use Rattle.runs.specs.Colours.{next, end_at}
 use Rattle.runs.specs.Orders.{steady, sharp}
 use Rattle.runs.specs.Inside.Lists.{Steady, Sharp}
-use Rattle.runs.specs.Inside.Falls.{fall, falls}
+use Rattle.runs.specs.Inside.Falls.{fall, falls, spaced}
 use Rattle.runs.proofs.Laws.Orders.{run_begins, steady_yes, yes_steady, sharp_yes, yes_sharp}
 
 -- ---- one place
@@ -194,53 +194,43 @@ module _ (step n : ℕ) (ws : List ℕ) (some : 0 < length ws) where
   pub up_last : UpBy → offset (get_or ws (length ws - 1) 0) + step ≤ n
   up_last u = subst (λ (x : ℕ). offset (get_or ws (length ws - 1) 0) + step ≤ x) (ends_last (length ws - 1) (omega arith)) (u (length ws - 1) (omega arith))
 
-refuted : (t : Bool) → (t ≡ true → ⊥) → t ≡ false
-refuted true h = absurd (h refl)
-refuted false h = refl
+-- what `spaced` says
+module _ (step n : ℕ) (ws : List ℕ) (some : 0 < length ws) where
+  spaced_yes : spaced step n ws ≡ true → (offset (get_or ws 0 0) ≡ 0) × UpBy step n ws some
+  unfolding spaced
+  spaced_yes e =
+      let a = and_true _ _ e in
+      let b = and_true _ _ a.0 in
+      (eqb-true _ _ b.0, none_up step n ws some (eqb-true _ _ b.1) (leb-true _ _ a.1))
 
-module _ (n : ℕ) (ws : List ℕ) (some : length ws ≡ 0 → ⊥) (first : offset (get_or ws 0 0) ≡ 0) where
-  long : 0 < length ws
-  long = omega (arith, some)
+  yes_spaced : offset (get_or ws 0 0) ≡ 0 → UpBy step n ws some → spaced step n ws ≡ true
+  unfolding spaced
+  yes_spaced f u = and_both _ _ (and_both _ _ (eq-eqb _ _ f) (eq-eqb _ _ (up_none step n ws some u))) (le-leb _ _ (up_last step n ws some u))
 
-  up_0 : Steady n ws → UpBy 0 n ws long
-  up_0 s i h = omega (arith, s.up i h)
+-- two tests that follow from one another
+same_tests : (a b : Bool) → (a ≡ true → b ≡ true) → (b ≡ true → a ≡ true) → a ≡ b
+same_tests true b h g = sym (h refl)
+same_tests false true h g = g refl
+same_tests false false h g = refl
 
-  up_1 : Sharp n ws → UpBy 1 n ws long
-  up_1 s i h = omega (arith, s.up i h)
-
-  pub steady_falls : eqb (falls 0 ws 0 (length ws - 1)) 0 ≡ false → steady n ws ≡ false
-  steady_falls e = refuted (steady n ws) (λ s. false_true (sym e ∙ eq-eqb _ _ (up_none 0 n ws long (up_0 (steady_yes n ws s)))))
-
-  pub steady_last : eqb (falls 0 ws 0 (length ws - 1)) 0 ≡ true → steady n ws ≡ leb (offset (get_or ws (length ws - 1) 0)) n
-  steady_last e = go (leb (offset (get_or ws (length ws - 1) 0)) n) refl
+module _ (n : ℕ) (ws : List ℕ) (some : 0 < length ws) where
+  pub steady_spaced : steady n ws ≡ spaced 0 n ws
+  steady_spaced = same_tests (steady n ws) (spaced 0 n ws) there back
     where
-      none : falls 0 ws 0 (length ws - 1) ≡ 0
-      none = eqb-true _ _ e
+      there : steady n ws ≡ true → spaced 0 n ws ≡ true
+      there e = let s = steady_yes n ws e in yes_spaced 0 n ws some s.first (λ i h. omega (arith, s.up i h))
 
-      go : (t : Bool) → leb (offset (get_or ws (length ws - 1) 0)) n ≡ t → steady n ws ≡ t
-      go true q =
-          let below : offset (get_or ws (length ws - 1) 0) ≤ n = leb-true _ _ q in
-          yes_steady n ws (record { first = first; up = λ i h. omega (arith, none_up 0 n ws long none (omega arith) i h) })
-      go false q =
-          let h : n < offset (get_or ws (length ws - 1) 0) = leb-false _ _ q in
-          refuted (steady n ws) (λ (s : steady n ws ≡ true). absurd (omega (arith, up_last 0 n ws long (up_0 (steady_yes n ws s)))))
+      back : spaced 0 n ws ≡ true → steady n ws ≡ true
+      back e = let s = spaced_yes 0 n ws some e in yes_steady n ws (record { first = s.0; up = λ i h. omega (arith, s.1 i h) })
 
-  pub sharp_falls : eqb (falls 1 ws 0 (length ws - 1)) 0 ≡ false → sharp n ws ≡ false
-  sharp_falls e = refuted (sharp n ws) (λ s. false_true (sym e ∙ eq-eqb _ _ (up_none 1 n ws long (up_1 (sharp_yes n ws s)))))
-
-  pub sharp_last : eqb (falls 1 ws 0 (length ws - 1)) 0 ≡ true → sharp n ws ≡ ltb (offset (get_or ws (length ws - 1) 0)) n
-  sharp_last e = go (ltb (offset (get_or ws (length ws - 1) 0)) n) refl
+  pub sharp_spaced : sharp n ws ≡ spaced 1 n ws
+  sharp_spaced = same_tests (sharp n ws) (spaced 1 n ws) there back
     where
-      none : falls 1 ws 0 (length ws - 1) ≡ 0
-      none = eqb-true _ _ e
+      there : sharp n ws ≡ true → spaced 1 n ws ≡ true
+      there e = let s = sharp_yes n ws e in yes_spaced 1 n ws some s.first (λ i h. omega (arith, s.up i h))
 
-      go : (t : Bool) → ltb (offset (get_or ws (length ws - 1) 0)) n ≡ t → sharp n ws ≡ t
-      go true q =
-          let below : offset (get_or ws (length ws - 1) 0) < n = ltb-true _ _ q in
-          yes_sharp n ws (record { some = long; first = first; up = λ i h. omega (arith, none_up 1 n ws long none (omega arith) i h) })
-      go false q =
-          let h : n ≤ offset (get_or ws (length ws - 1) 0) = ltb-false _ _ q in
-          refuted (sharp n ws) (λ (s : sharp n ws ≡ true). absurd (omega (arith, up_last 1 n ws long (up_1 (sharp_yes n ws s)))))
+      back : spaced 1 n ws ≡ true → sharp n ws ≡ true
+      back e = let s = spaced_yes 1 n ws some e in yes_sharp n ws (record { some = some; first = s.0; up = λ i h. omega (arith, s.1 i h) })
 
 -- ---- the two parts of the test
 
@@ -250,8 +240,9 @@ module _ (step : ℕ) (ws : List ℕ) (eighth : ℕ) (inside : 8 * eighth < leng
       let e : 8 * eighth + (length ws - 1 - 8 * eighth) ≡ length ws - 1 = omega arith in
       falls_join step ws 0 (8 * eighth) (length ws - 1 - 8 * eighth) (8 * eighth) (omega arith) ∙ ap (falls step ws 0) e
 
-  pub falls_early : 0 < falls step ws 0 (8 * eighth) → eqb (falls step ws 0 (length ws - 1)) 0 ≡ false
-  falls_early h = ne_eqb _ _ (λ (e : falls step ws 0 (length ws - 1) ≡ 0). absurd (omega (arith, parts)))
-
-  pub falls_late : falls step ws 0 (8 * eighth) ≤ 0 → falls step ws (8 * eighth) (length ws - 1 - 8 * eighth) ≡ falls step ws 0 (length ws - 1)
+  -- none fall before and none behind, or some do
+  pub falls_late : falls step ws 0 (8 * eighth) ≡ 0 → falls step ws (8 * eighth) (length ws - 1 - 8 * eighth) ≡ falls step ws 0 (length ws - 1)
   falls_late h = omega (arith, parts)
+
+  pub falls_early : (falls step ws 0 (8 * eighth) ≡ 0 → ⊥) → eqb (falls step ws 0 (length ws - 1)) 0 ≡ false
+  falls_early h = ne_eqb _ _ (λ (e : falls step ws 0 (length ws - 1) ≡ 0). h (omega (arith, parts)))

@@ -176,3 +176,13 @@ pub starts_merged : (cs : List ℕ) → length cs < 16777216 → starts (merged 
 unfolding merged runs_at firsts
 starts_merged [] h = refl
 starts_merged (c ∷ cs) h = ap₂ (λ (x : ℕ) (l : List ℕ). x ∷ l) (offset_pack 0 c (omega arith)) (starts_changes (c ∷ cs) c 1 cs (omega arith))
+
+-- the runs ahead are no more than the vertices ahead
+pub length_from : (at c : ℕ) (cs : List ℕ) → length (merged_from at c cs) ≤ length cs
+unfolding merged_from
+length_from at c [] = omega arith
+length_from at c (d ∷ cs) = go (begins at c d) (length_from (at + 1) d cs)
+  where
+    go : (t : Bool) → length (merged_from (at + 1) d cs) ≤ length cs → length (begun t (pack at d) (merged_from (at + 1) d cs)) ≤ suc (length cs)
+    go true h = omega arith
+    go false h = omega arith

@@ -157,12 +157,6 @@ oriented_sharp false n ws small s = s
 
 -- ---- the coordinate of the first run
 
-pub first_none : (r : Bool) (n : ℕ) (ws : List ℕ) → length ws ≡ 0 → 0 ≡ first_coord (oriented r n ws)
-unfolding reverse_runs
-first_none true n [] e = refl
-first_none false n [] e = refl
-first_none r n (w ∷ ws) e = absurd (omega arith)
-
 pub first_back : (n : ℕ) (ws : List ℕ) → 0 < length ws → first_coord (reverse_runs n ws) ≡ last_coord ws
 first_back n ws h =
     let k : ℕ = length ws - 1 in
@@ -170,8 +164,13 @@ first_back n ws h =
     let e : end_at n ws (length ws - 1) ≡ n = ap (next n) d in
     ap coordinate (reversed_at n ws 0 (length ws - 1) (omega arith)) ∙ coordinate_pack (n - end_at n ws (length ws - 1)) (last_coord ws) (omega arith)
 
-pub first_yes : (r : Bool) (n : ℕ) (ws : List ℕ) → 0 < length ws → r ≡ true → last_coord ws ≡ first_coord (oriented r n ws)
-first_yes r n ws h e = sym (ap first_coord (oriented_yes r n ws e) ∙ first_back n ws h)
+reversed_first : (n : ℕ) (ws : List ℕ) → first_coord (reverse_runs n ws) ≡ last_coord ws
+unfolding reverse_runs
+reversed_first n [] = refl
+reversed_first n (w ∷ ws) = first_back n (w ∷ ws) (omega arith)
 
-pub first_no : (r : Bool) (n : ℕ) (ws : List ℕ) → r ≡ false → first_coord ws ≡ first_coord (oriented r n ws)
-first_no r n ws e = sym (ap first_coord (oriented_no r n ws e))
+pub first_yes : (r : Bool) (n : ℕ) (ws : List ℕ) → r ≡ true → first_coord (oriented r n ws) ≡ last_coord ws
+first_yes r n ws e = ap first_coord (oriented_yes r n ws e) ∙ reversed_first n ws
+
+pub first_no : (r : Bool) (n : ℕ) (ws : List ℕ) → r ≡ false → first_coord (oriented r n ws) ≡ first_coord ws
+first_no r n ws e = ap first_coord (oriented_no r n ws e)

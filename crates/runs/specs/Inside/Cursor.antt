@@ -4,7 +4,7 @@ use Rattle.base.specs.Tests.{◌when◌else◌}
 use Rattle.runs.specs.Words.{coordinate, pack}
 use Rattle.runs.specs.Colours.{next, colours}
 use Rattle.runs.specs.Rotate.{turn_left}
-use Rattle.runs.specs.declared.rotate.Part.{Part}
+use Rattle.runs.specs.declared.turned.Part.{Part}
 
 -- a run begins at vertex 0 and at each vertex unlike the one before
 unfoldable pub begins : ℕ → ℕ → ℕ → Bool

@@ -1,7 +1,8 @@
 -- Where a list falls: so is counted whether it ascends.
-use Rattle.std.specs.Prelude.{ℕ, zero, suc, ◌+◌, List, get_or, ltb}
+use Rattle.std.specs.Prelude.{ℕ, zero, suc, ◌+◌, ◌-◌, Bool, ◌&&◌, List, length, get_or, leb, ltb, eqb}
 use Rattle.base.specs.Tests.{◌when◌else◌}
 use Rattle.runs.specs.Words.{offset}
+use Rattle.runs.specs.Colours.{last_run}
 
 -- 1 where the list falls at place p, that is, run p + 1 begins less than `step` vertices behind run p; otherwise 0
 unfoldable pub fall : ℕ → List ℕ → ℕ → ℕ
@@ -11,3 +12,7 @@ fall step ws p = 1 when ltb (offset (get_or ws (p + 1) 0)) (offset (get_or ws p 
 unfoldable pub falls : ℕ → List ℕ → ℕ → ℕ → ℕ
 falls step ws p zero = 0
 falls step ws p (suc k) = falls step ws p k + fall step ws (p + k)
+
+-- the first run begins at 0, each at least `step` vertices behind the one before it, and the last at least `step` before n
+unfoldable pub spaced : ℕ → ℕ → List ℕ → Bool
+spaced step n ws = eqb (offset (get_or ws 0 0)) 0 && eqb (falls step ws 0 (length ws - 1)) 0 && leb (offset (last_run ws) + step) n

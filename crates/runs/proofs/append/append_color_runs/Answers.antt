@@ -22,9 +22,6 @@ returns-then-bad_counts c =
     let fits : c.args.used ≤ length out = c.if-out-used.false in
     append_7 out c.args.used a ps n r fits (via c.bad_counts.ensures c.if-bad_counts.true)
 
-pub is_joinable-requires : goal.is_joinable-requires
-is_joinable-requires c = c.if-out-used.false
-
 pub returns-then-not-is_joinable : goal.returns-then-not-is_joinable
 returns-then-not-is_joinable c =
     let out = c.args.out.now in
@@ -47,6 +44,14 @@ returns-then-not-is_sharp c =
     let good : bad_counts a n ≡ false = via c.bad_counts.ensures c.if-bad_counts.false in
     let may : joinable a (take c.args.used out) ≡ true = sym c.is_joinable.ensures ∙ c.if-not-is_joinable.false in
     append_66 out c.args.used a ps n r fits good may (sym c.is_sharp.ensures ∙ c.if-not-is_sharp.true)
+
+pub invariant_of-oriented : goal.invariant_of-oriented
+invariant_of-oriented c =
+    let out = c.args.out.now in
+    let fits : c.args.used ≤ length out = c.if-out-used.false in
+    let good : bad_counts c.args.out_count c.args.piece_count ≡ false = via c.bad_counts.ensures c.if-bad_counts.false in
+    let may : joinable c.args.out_count (take c.args.used out) ≡ true = sym c.is_joinable.ensures ∙ c.if-not-is_joinable.false in
+    record { taken = (admitted out c.args.used c.args.out_count c.args.piece.now c.args.piece_count c.args.reversed fits good may (sym c.is_sharp.ensures ∙ c.if-not-is_sharp.false)).taken }
 
 pub append_admitted-requires : goal.append_admitted-requires
 append_admitted-requires c =

@@ -7,6 +7,3 @@ use Rattle.runs.proofs.orders.falls_from.Given as goal
 
 abbrev pub invariant-loop-i : goal.invariant-loop-i
 invariant-loop-i l = (l.from ≤ l.i) × (l.i < length l.runs) × (l.count ≤ l.i) × (l.count ≡ falls l.step l.runs l.from (l.i - l.from))
-
-abbrev pub decreases-loop-i : goal.decreases-loop-i
-decreases-loop-i l = length l.runs - l.i

@@ -6,6 +6,3 @@ use Rattle.runs.proofs.orders.falls_in_eighths.Given as goal
 
 abbrev pub invariant-loop-i : goal.invariant-loop-i
 invariant-loop-i l = (l.i ≤ l.eighth) × (l.count ≤ 8 * l.i) × (l.count ≡ in_eighths l.step l.runs l.eighth l.i)
-
-abbrev pub decreases-loop-i : goal.decreases-loop-i
-decreases-loop-i l = l.eighth - l.i

@@ -1,18 +1,19 @@
 -- `runs::orders::is_rising` meets its contract.
-use Prim.Native.Nat.{ℕ, ◌-◌, ◌/◌, ◌≤◌, ◌<◌}
-use mathlib.Core.Path.{sym, ap, ◌∙◌, subst}
+use Prim.Native.Nat.{ℕ, ◌-◌, ◌/◌}
+use mathlib.Core.Path.{sym, ap, ◌∙◌}
 use native.Mathlib.Omega.{arith}
+use borrow.Author.Tests.{ne_eqb}
 use lib.ListN.{length}
 use lib.Dec.{eqb}
 use Rattle.runs.proofs.Laws.Falls.{falls_early, falls_late}
 use Rattle.runs.proofs.orders.is_rising.Goals as goal
 
-pub returns-then-falls_in_eighths-gt0 : goal.returns-then-falls_in_eighths-gt0
-returns-then-falls_in_eighths-gt0 c =
+pub returns-then-falls_in_eighths-eq0 : goal.returns-then-falls_in_eighths-eq0
+returns-then-falls_in_eighths-eq0 c =
     let ws = c.args.runs.now in
-    sym (falls_early c.args.step ws ((length ws - 1) / 8) (omega arith) (subst (λ (x : ℕ). 0 < x) c.falls_in_eighths.ensures c.if-falls_in_eighths-gt0.true))
+    ap (λ (x : ℕ). eqb x 0) (c.falls_from.ensures ∙ falls_late c.args.step ws ((length ws - 1) / 8) (omega arith) (sym c.falls_in_eighths.ensures ∙ c.if-falls_in_eighths-eq0.true))
 
-pub returns : goal.returns
-returns c =
+pub returns-else-falls_in_eighths-eq0 : goal.returns-else-falls_in_eighths-eq0
+returns-else-falls_in_eighths-eq0 c =
     let ws = c.args.runs.now in
-    ap (λ (x : ℕ). eqb x 0) (c.falls_from.ensures ∙ falls_late c.args.step ws ((length ws - 1) / 8) (omega arith) (subst (λ (x : ℕ). x ≤ 0) c.falls_in_eighths.ensures c.if-falls_in_eighths-gt0.false))
+    ne_eqb _ _ c.if-falls_in_eighths-eq0.false ∙ sym (falls_early c.args.step ws ((length ws - 1) / 8) (omega arith) (λ e. c.if-falls_in_eighths-eq0.false (c.falls_in_eighths.ensures ∙ e)))

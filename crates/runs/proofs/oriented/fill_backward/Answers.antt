@@ -1,0 +1,30 @@
+use Prim.Native.Nat.{◌-◌}
+use mathlib.Core.Path.{refl}
+use native.Mathlib.Omega.{arith}
+use lib.ListN.{length}
+use Rattle.runs.specs.Reverse.{reverse_runs}
+use Rattle.runs.proofs.Laws.Orders.{offset_le}
+use Rattle.runs.proofs.Laws.Lists.{fill_none}
+use Rattle.runs.proofs.Laws.Reverse.{length_reversed}
+use Rattle.runs.proofs.Laws.Fill.{backward_more, rest_end}
+use Rattle.runs.proofs.oriented.fill_backward.Goals as goal
+
+pub loop-i-init : goal.loop-i-init
+loop-i-init c = (refl, c.from-top.ensures, omega arith, fill_none _ _)
+
+pub backed-requires : goal.backed-requires
+backed-requires c =
+    let ws = c.args.runs.now in
+    (omega (arith, offset_le c.args.n ws (length ws - 1 - c.loop-i.i) (omega arith) c.requires.0.list.up), omega arith)
+
+pub bounds-out-i : goal.bounds-out-i
+bounds-out-i c = omega (arith, c.loop-i.invariant.3.long)
+
+pub loop-i-preserved : goal.loop-i-preserved
+loop-i-preserved c =
+    (refl, c.from-top.ensures, omega arith, backward_more _ _ _ c.requires.0 _ _ _ c.loop-i.invariant.3 _ _ (omega arith) (omega (arith, c.loop-i.invariant.3.long)) c.from-top.ensures c.backed.ensures)
+
+pub returns : goal.returns
+returns c =
+    let ws = c.args.runs.now in
+    rest_end c.args.shift (reverse_runs c.args.n ws) _ _ c.loop-i.i c.loop-i.invariant.3 (omega (arith, length_reversed c.args.n ws))
