@@ -1,5 +1,5 @@
 -- Section 6 of 01: run bytes. A LEB128 count, then 8 bytes a run, low first.
-use Rattle.std.specs.Prelude.{ℕ, zero, suc, ◌+◌, ◌-◌, ◌*◌, ◌/◌, ◌%◌, Bool, not, List, [], ◌∷◌, ◌++◌, length, take, drop, leb, ltb}
+use Rattle.std.specs.Prelude.{ℕ, zero, suc, ◌+◌, ◌-◌, ◌*◌, ◌/◌, ◌%◌, Bool, not, List, [], ◌∷◌, ◌++◌, length, take, drop, leb, ltb, Result, Ok, Err}
 use Rattle.base.specs.Tests.{◌when◌else◌}
 use Rattle.base.specs.Answers.{Answer, refused, done, number_of}
 use Rattle.base.specs.Parts.{over}
@@ -8,8 +8,7 @@ use Rattle.codec.specs.Prefix.{prefix_of, ReadLeb, whole, cut, bad, read_prefix}
 use Rattle.runs.specs.Colours.{colour_at}
 use Rattle.runs.specs.Orders.{most_vertices, steady, sharp}
 use Rattle.runs.specs.Rotate.{rotate_runs}
-use Rattle.runs.specs.declared.bytes.Colored.{Colored}
-use Rattle.runs.specs.declared.bytes.Colored.TheVariants.{At, Refused}
+use Rattle.base.specs.declared.Refusal.{Refusal}
 
 -- the low k bytes of a number, low first, and the number that bytes give
 unfoldable pub le_bytes : ℕ → ℕ → List ℕ
@@ -79,9 +78,9 @@ write_rotated ws n pivot reversed out =
 -- ---- the coordinate of a vertex
 
 -- in the numbers of 01
-abbrev pub of_colored : Colored → Answer
-of_colored (At coord) = done (coord ∷ [])
-of_colored (Refused r) = refused (number_of r)
+abbrev pub of_colored : Result ℕ Refusal → Answer
+of_colored (Ok coord) = done (coord ∷ [])
+of_colored (Err r) = refused (number_of r)
 
 -- by the list that is found in run bytes
 unfoldable pub sharp_colour_in : ℕ → ℕ → ReadRuns → Answer

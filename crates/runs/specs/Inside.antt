@@ -6,4 +6,6 @@ pub mod Swap
 pub mod Pieces
 pub mod Cursor
 pub mod Turned
-pub mod Prefixes
+pub mod Blocks
+pub mod Yields
+pub mod Refusals

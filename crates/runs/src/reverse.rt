@@ -6,7 +6,7 @@ ghost use Rattle.runs.specs.Reverse.{oriented, orient_into, reverse_into, revers
 
 use crate::oriented::Oriented;
 use crate::{orders, swap, words};
-use base::{Refusal, Written};
+use base::Refusal;
 
 // The coordinate of the first run of the oriented list, or 0 where there is none.
 #[tactic(auto, using(crate::proofs::Laws::Reverse::first_yes, crate::proofs::Laws::Reverse::first_no))]
@@ -21,40 +21,35 @@ pub fn first_coordinate(runs: &[u64], n: u32, reversed: bool) -> u64
 }
 
 // The list, reversed where wished, to the front of `out`.
-pub fn orient_color_runs(runs: &[u64], n: u32, reversed: bool, out: &mut [u64]) -> Written
+pub fn orient_color_runs(
+    runs: &[u64],
+    n: u32,
+    reversed: bool,
+    out: &mut [u64],
+) -> Result<usize, Refusal>
     ensures { (of_written result, out.new) ≡ orient_into runs.now n reversed out.old }
 {
-    if 16777215 < n {
-        return Written::Refused(Refusal::Vertices);
-    }
-    if !orders::is_steady(runs, n) {
-        return Written::Refused(Refusal::Runs);
-    }
+    orders::check_steady(runs, n)?;
     if out.len() < runs.len() {
-        return Written::Refused(Refusal::Space);
+        return Err(Refusal::Space);
     }
-    Oriented { runs, n, reversed }.fill(0, out);
-    Written::Done(runs.len())
+    let list = Oriented { runs, n, reversed };
+    list.fill(0, out);
+    Ok(runs.len())
 }
 
 // The reversed list to the front of `out`.
-pub fn reverse_color_runs(runs: &[u64], n: u32, out: &mut [u64]) -> Written
+pub fn reverse_color_runs(runs: &[u64], n: u32, out: &mut [u64]) -> Result<usize, Refusal>
     ensures { (of_written result, out.new) ≡ reverse_into runs.now n out.old }
 {
     orient_color_runs(runs, n, true, out)
 }
 
 // Reverse a list in its own place.
-pub fn reverse_color_runs_in_place(runs: &mut [u64], n: u32) -> Written
+pub fn reverse_color_runs_in_place(runs: &mut [u64], n: u32) -> Result<usize, Refusal>
     ensures { (of_written result, runs.new) ≡ reverse_in_place runs.old n }
 {
-    if 16777215 < n {
-        return Written::Refused(Refusal::Vertices);
-    }
-    if !orders::is_steady(runs, n) {
-        return Written::Refused(Refusal::Runs);
-    }
-    let m = runs.len();
+    orders::check_steady(runs, n)?;
     swap::swap_ends(runs, n);
-    Written::Done(m)
+    Ok(runs.len())
 }

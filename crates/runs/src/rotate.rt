@@ -1,15 +1,15 @@
 // A cycle begun at another vertex, by run arithmetic: the cost grows with the runs, not with the vertices.
-ghost use Rattle.std.specs.Prelude.{◌≡◌, ◌+◌, ◌≤◌, length};
+ghost use Rattle.std.specs.Prelude.{ℕ, ◌≡◌, ◌≤◌, List, length};
 ghost use Rattle.base.specs.Answers.{of_written};
 ghost use Rattle.base.specs.Parts.{over};
-ghost use Rattle.runs.specs.Inside.Oriented.{list_of};
 ghost use Rattle.runs.specs.Inside.Turned.{ahead};
+ghost use Rattle.runs.specs.Inside.Yields.{YieldsAll, YieldsUpTo};
 ghost use Rattle.runs.specs.Rotate.{rotate_runs, rotate_into};
 
 use crate::oriented::Oriented;
-use crate::turned::{Turn, Turned};
 use crate::orders;
-use base::{Refusal, Written};
+use crate::turned::{Turn, Turned};
+use base::Refusal;
 
 // The runs of the list turned left by pivot mod n.
 pub(crate) fn turned<'a>(list: Oriented<'a>, pivot: u32) -> Turned<'a>
@@ -30,12 +30,12 @@ pub(crate) fn count(cycle: Turned) -> usize
     cycle.count()
 }
 
-// All of them to the front of `out`.
-fn fill(cycle: Turned, out: &mut [u64])
-    requires { length (ahead cycle) ≤ length out.old }
-    ensures { out.new ≡ over (ahead cycle.entry) out.old }
+// All that the iterator gives to the front of `out`.
+fn fill<I: Iterator<Item = u64>>(runs: I, out: &mut [u64])
+    requires { YieldsUpTo I.can_next I.next_gives I.remaining runs (length out.old) }
+    ensures { (all : List ℕ) → YieldsAll I.next_gives runs all → out.new ≡ over all out.old }
 {
-    for (i, run) in cycle.enumerate() {
+    for (i, run) in runs.enumerate() {
         out[i] = run;
     }
 }
@@ -47,20 +47,15 @@ pub fn rotate_cycle_color_runs(
     pivot: u32,
     reversed: bool,
     out: &mut [u64],
-) -> Written
+) -> Result<usize, Refusal>
     ensures { (of_written result, out.new) ≡ rotate_into runs.now n pivot reversed out.old }
 {
-    if 16777215 < n {
-        return Written::Refused(Refusal::Vertices);
-    }
-    if !orders::is_steady(runs, n) {
-        return Written::Refused(Refusal::Runs);
-    }
+    orders::check_steady(runs, n)?;
     let cycle = turned(Oriented { runs, n, reversed }, pivot);
     let count = count(cycle);
     if out.len() < count {
-        return Written::Refused(Refusal::Space);
+        return Err(Refusal::Space);
     }
     fill(cycle, out);
-    Written::Done(count)
+    Ok(count)
 }

@@ -2,6 +2,9 @@
 use Prim.Native.Nat.{ℕ, zero, suc, ◌+◌, ◌-◌, ◌*◌, ◌/◌, ◌%◌, ◌^◌, ◌≤◌, ◌<◌}
 use mathlib.Core.Path.{◌≡◌, refl, sym, ap, ap₂, ◌∙◌, subst}
 use mathlib.Core.Bool.{Bool, true, false}
+use Rattle.std.specs.Prelude.{Result, Ok, Err}
+use Rattle.std.specs.Int.{w64, from_le_bytes, to_le_bytes}
+use Rattle.std.proofs.Common.{inl, inr}
 use mathlib.Core.List.{List, [], ◌∷◌, ◌++◌, append_assoc}
 use native.Mathlib.Omega.{arith}
 use native.Mathlib.Nat.{pow-suc, div-lt_iff_lt-mul}
@@ -10,7 +13,7 @@ use lib.ListN.{length, take, drop, get_or, set, length-append, length-drop, take
 use lib.Seq.{sets-eq, drop-cons, drop-append-add, take_at, drop_at, take-add, drop-drop, length-take-le, drop-append_seam, take-append_seam, get_or-drop, get_or-append-add}
 use lib.Dec.{ltb, lit<}
 use Rattle.base.specs.Tests.{◌when◌else◌}
-use Rattle.base.specs.Answers.{Answer, refused, done, number_of, of_given}
+use Rattle.base.specs.Answers.{Answer, refused, done, number_of, of_written}
 use Rattle.base.specs.declared.Refusal.{Refusal}
 use Rattle.base.specs.Parts.{over}
 use Rattle.base.proofs.Tests.{when_yes, when_no}
@@ -19,14 +22,14 @@ use Rattle.base.proofs.Parts.{over_behind, tail_is, put_tail}
 use Rattle.codec.specs.Bits.{AreBytes}
 use Rattle.codec.specs.Flat.{flat}
 use Rattle.codec.specs.Prefix.{prefix_of, ReadLeb, whole, cut, bad, read_prefix, of_prefix, prefix_in, write_prefix}
-use Rattle.codec.specs.declared.prefix.Prefix.TheVariants as prefix
 use Rattle.codec.proofs.Laws.Prefix.{prefix_read, prefix_behind}
 use Rattle.codec.proofs.Laws.Records.{prefix_only}
 use Rattle.runs.specs.Words.{AreWords}
 use Rattle.runs.specs.Orders.{most_vertices, steady}
 use Rattle.runs.specs.Rotate.{rotate_runs}
 use Rattle.runs.specs.Bytes.{le_bytes, le_value, run_bytes, words, ReadRuns, found, short, after_count, read_runs, write_runs, given_in, read_runs_into, write_rotated, sharp_colour_in}
-use Rattle.codec.specs.Inside.Prefixes.{up_given}
+use Rattle.runs.specs.Inside.Blocks.{IsRead}
+use Rattle.std.proofs.lemmas.List.{length_push, get_or_default}
 use Rattle.runs.proofs.Laws.Lists.{Filled}
 
 pub length_le : (k w : ℕ) → length (le_bytes k w) ≡ k
@@ -73,17 +76,15 @@ fill_block all from out after blk k m f h l b e =
       kept = ap (drop (k + m)) e ∙ drop_at (take k out ++ blk) (drop (k + m) out) (k + m) q ∙ sym (drop-drop m k out) ∙ ap (drop m) f.kept ∙ drop-drop m k from;
     }
 
--- eight stores, one after another
-pub put_8 : (l : List ℕ) (at a0 a1 a2 a3 a4 a5 a6 a7 : ℕ) → at + 8 ≤ length l → set (set (set (set (set (set (set (set l at a0) (at + 1) a1) (at + 2) a2) (at + 3) a3) (at + 4) a4) (at + 5) a5) (at + 6) a6) (at + 7) a7 ≡ take at l ++ (a0 ∷ a1 ∷ a2 ∷ a3 ∷ a4 ∷ a5 ∷ a6 ∷ a7 ∷ []) ++ drop (at + 8) l
-put_8 l at a0 a1 a2 a3 a4 a5 a6 a7 h =
-    let e1 : at + 1 ≡ suc at = omega arith in
-    let e2 : at + 2 ≡ suc (suc at) = omega arith in
-    let e3 : at + 3 ≡ suc (suc (suc at)) = omega arith in
-    let e4 : at + 4 ≡ suc (suc (suc (suc at))) = omega arith in
-    let e5 : at + 5 ≡ suc (suc (suc (suc (suc at)))) = omega arith in
-    let e6 : at + 6 ≡ suc (suc (suc (suc (suc (suc at))))) = omega arith in
-    let e7 : at + 7 ≡ suc (suc (suc (suc (suc (suc (suc at)))))) = omega arith in
-    rw (e1, e2, e3, e4, e5, e6, e7) (sets-eq (a0 ∷ a1 ∷ a2 ∷ a3 ∷ a4 ∷ a5 ∷ a6 ∷ a7 ∷ []) l at h)
+-- the block of an element put at its number
+pub fill_next_block : (all from out after : List ℕ) (xs : List (ℕ × ℕ)) (i x : ℕ) → (i ≡ length xs) × (length xs < length all) × (x ≡ get_or all (length xs) x) → 8 * i + 8 ≤ length out
+    → after ≡ take (8 * i) out ++ le_bytes 8 x ++ drop (8 * i + 8) out → Filled (flat (le_bytes 8) all) from out (8 * length xs) → Filled (flat (le_bytes 8) all) from after (8 * length (xs ++ ((i, x) ∷ [])))
+fill_next_block all from out after xs i x h room e f =
+    let k : ℕ = length xs in
+    let g : 8 * k + 8 ≡ 8 * (k + 1) = omega arith in
+    let same : get_or all k 0 ≡ x = get_or_default all k 0 x h.1 ∙ sym h.2 in
+    let put : after ≡ take (8 * k) out ++ le_bytes 8 x ++ drop (8 * k + 8) out = e ∙ ap (λ (j : ℕ). take (8 * j) out ++ le_bytes 8 x ++ drop (8 * j + 8) out) h.0 in
+    rw (length_push xs (i, x)) (subst (Filled (flat (le_bytes 8) all) from after) g (fill_block (flat (le_bytes 8) all) from out after (le_bytes 8 x) (8 * k) 8 f (omega (arith, f.long, h.0)) (length_le 8 x) (block all k h.1 ∙ ap (le_bytes 8) same) put))
 
 -- eight bytes, and the number that they give
 pull : (k at after : ℕ) (xs : List ℕ) → at < length xs → after ≡ suc at → take (suc k) (drop at xs) ≡ get_or xs at 0 ∷ take k (drop after xs)
@@ -97,6 +98,37 @@ unfolding le_value
 value_8 b0 b1 b2 b3 b4 b5 b6 b7 =
     let e : b7 ≡ b7 + 256 * 0 = omega arith in
     ap (λ (x : ℕ). b0 + 256 * (b1 + 256 * (b2 + 256 * (b3 + 256 * (b4 + 256 * (b5 + 256 * (b6 + 256 * x))))))) e
+
+-- the number by std's word
+pub word_from : (xs : List ℕ) (at : ℕ) → at + 8 ≤ length xs → from_le_bytes w64 (take 8 (drop at xs)) ≡ le_value (take 8 (drop at xs))
+word_from xs at h =
+    let v = take_8 xs at h in
+    ap (from_le_bytes w64) v ∙ eight _ _ _ _ _ _ _ _ ∙ sym (ap le_value v)
+  where
+    eight : (b0 b1 b2 b3 b4 b5 b6 b7 : ℕ) → from_le_bytes w64 (b0 ∷ b1 ∷ b2 ∷ b3 ∷ b4 ∷ b5 ∷ b6 ∷ b7 ∷ []) ≡ le_value (b0 ∷ b1 ∷ b2 ∷ b3 ∷ b4 ∷ b5 ∷ b6 ∷ b7 ∷ [])
+    eight b0 b1 b2 b3 b4 b5 b6 b7 =
+        let e : from_le_bytes w64 (b0 ∷ b1 ∷ b2 ∷ b3 ∷ b4 ∷ b5 ∷ b6 ∷ b7 ∷ []) ≡ b0 + 256 * (b1 + 256 * (b2 + 256 * (b3 + 256 * (b4 + 256 * (b5 + 256 * (b6 + 256 * b7)))))) = omega arith in
+        e ∙ value_8 b0 b1 b2 b3 b4 b5 b6 b7
+
+-- the bytes by std's word
+pub word_to : (w : ℕ) → to_le_bytes w64 w ≡ le_bytes 8 w
+unfolding le_bytes
+word_to w =
+    let e2 : w / 65536 ≡ w / 256 / 256 = omega arith in
+    let e3 : w / 16777216 ≡ w / 256 / 256 / 256 = omega arith in
+    let e4 : w / 4294967296 ≡ w / 256 / 256 / 256 / 256 = omega arith in
+    let e5 : w / 1099511627776 ≡ w / 256 / 256 / 256 / 256 / 256 = omega arith in
+    let e6 : w / 281474976710656 ≡ w / 256 / 256 / 256 / 256 / 256 / 256 = omega arith in
+    let e7 : w / 72057594037927936 ≡ w / 256 / 256 / 256 / 256 / 256 / 256 / 256 = omega arith in
+    rw (e2, e3, e4, e5, e6, e7)
+
+-- a part of eight bytes, lent and back
+pub put_block : (out new : List ℕ) (at w : ℕ) → new ≡ to_le_bytes w64 w → take at out ++ (new ++ drop (at + 8 - at) (drop at out)) ≡ take at out ++ le_bytes 8 w ++ drop (at + 8) out
+put_block out new at w e =
+    let k : at + 8 - at ≡ 8 = omega arith in
+    ap₂ (λ (x : List ℕ) (n : ℕ). take at out ++ (x ++ drop n (drop at out))) (e ∙ word_to w) k
+    ∙ ap (λ (l : List ℕ). take at out ++ (le_bytes 8 w ++ l)) (drop-drop 8 at out)
+    ∙ sym (append_assoc (take at out) (le_bytes 8 w) (drop (at + 8) out))
 
 -- ---- words
 
@@ -153,32 +185,38 @@ module _ (ws out : List ℕ) where
       let z : length (run_bytes ws) ≤ length out = omega arith in
       ap₂ (λ (x : ℕ) (y : List ℕ). (done (x ∷ []), y)) q a ∙ sym (when_no _ _ _ (le-ltb _ _ h) ∙ when_no _ _ _ (le-ltb _ _ z))
 
-  -- the count, and the runs behind it
-  module _ (p : ℕ) (mid : List ℕ) (q : p ≡ length (prefix_of (length ws))) (m : mid ≡ over (prefix_of (length ws)) out) where
-    front : take p mid ≡ prefix_of (length ws)
-    unfolding over
-    front = ap₂ take q m ∙ take-append_seam (prefix_of (length ws)) (drop (length (prefix_of (length ws))) out)
+-- the count, and the runs behind it
+module _ (k : ℕ) (out : List ℕ) (p : ℕ) (mid : List ℕ) (q : p ≡ length (prefix_of k)) (m : mid ≡ over (prefix_of k) out) where
+  front : take p mid ≡ prefix_of k
+  unfolding over
+  front = ap₂ take q m ∙ take-append_seam (prefix_of k) (drop (length (prefix_of k)) out)
 
-    back : drop p mid ≡ drop (length (prefix_of (length ws))) out
-    unfolding over
-    back = ap₂ drop q m ∙ drop-append_seam (prefix_of (length ws)) (drop (length (prefix_of (length ws))) out)
+  back : drop p mid ≡ drop (length (prefix_of k)) out
+  unfolding over
+  back = ap₂ drop q m ∙ drop-append_seam (prefix_of k) (drop (length (prefix_of k)) out)
 
-    pub room : p + 8 * length ws ≤ length out → 8 * length ws ≤ length (take (length mid - p) (drop p mid))
-    room h = rw (tail_is p mid, back, length-drop (length (prefix_of (length ws))) out) (omega arith)
+  pub room : p + 8 * k ≤ length out → 8 * k ≤ length (take (length mid - p) (drop p mid))
+  room h = rw (tail_is p mid, back, length-drop (length (prefix_of k)) out) (omega arith)
 
-    pub wrote : (part : List ℕ) → part ≡ over (flat (le_bytes 8) ws) (take (length mid - p) (drop p mid)) → take p mid ++ (part ++ drop (length mid - p) (drop p mid)) ≡ over (run_bytes ws) out
-    unfolding run_bytes
-    wrote part e =
-        put_tail p mid part
-        ∙ ap₂ (λ (x y : List ℕ). x ++ y) front (e ∙ ap (over (flat (le_bytes 8) ws)) (tail_is p mid ∙ back))
-        ∙ over_behind (prefix_of (length ws)) (flat (le_bytes 8) ws) out
+  pub wrote : (ws : List ℕ) → length ws ≡ k → (part : List ℕ) → part ≡ over (flat (le_bytes 8) ws) (take (length mid - p) (drop p mid)) → take p mid ++ (part ++ drop (length mid - p) (drop p mid)) ≡ over (run_bytes ws) out
+  unfolding run_bytes
+  wrote ws l part e =
+      put_tail p mid part
+      ∙ ap₂ (λ (x y : List ℕ). x ++ y) front (e ∙ ap (over (flat (le_bytes 8) ws)) (tail_is p mid ∙ back))
+      ∙ over_behind (prefix_of k) (flat (le_bytes 8) ws) out
+      ∙ ap (λ (x : ℕ). over (prefix_of x ++ flat (le_bytes 8) ws) out) (sym l)
 
 -- a count that was written
-pub counted : (k : ℕ) (r : Answer) (out after : List ℕ) → length (prefix_of k) ≤ length out → ◌≡◌ {A = Answer × List ℕ} (r, after) (write_prefix k out) → after ≡ over (prefix_of k) out
+pub counted : (k : ℕ) (r : Result ℕ Refusal) (out after : List ℕ) → length (prefix_of k) ≤ length out → ◌≡◌ {A = Answer × List ℕ} (of_written r, after) (write_prefix k out) → (r ≡ Ok (length (prefix_of k))) × (after ≡ over (prefix_of k) out)
 unfolding write_prefix
-counted k r out after h e =
-    let w : ◌≡◌ {A = Answer × List ℕ} (r, after) (done (length (prefix_of k) ∷ []), over (prefix_of k) out) = e ∙ when_no _ _ _ (le-ltb _ _ h) in
-    ap (λ (x : Answer × List ℕ). x.1) w
+counted k r out after h e = (told r (ap (λ (x : Answer × List ℕ). x.0) fits), ap (λ (x : Answer × List ℕ). x.1) fits)
+  where
+    fits : ◌≡◌ {A = Answer × List ℕ} (of_written r, after) (done (length (prefix_of k) ∷ []), over (prefix_of k) out)
+    fits = e ∙ when_no _ _ _ (le-ltb _ _ h)
+
+    told : (r : Result ℕ Refusal) → of_written r ≡ done (length (prefix_of k) ∷ []) → r ≡ Ok (length (prefix_of k))
+    told (Ok n) t = let same : n ≡ length (prefix_of k) = cc in ap Ok same
+    told (Err x) t = let z : ◌≡◌ {A = ℕ} 0 1 = cc in absurd (omega arith)
 
 -- ---- reading
 
@@ -292,69 +330,61 @@ module _ (k : ℕ) (rest : List ℕ) where
   unfolding after_count
   after_found h = when_no _ _ _ (le-ltb _ _ h)
 
-module _ (total k : ℕ) (rest out : List ℕ) where
-  pub given_4 : length rest < 8 * k → ◌≡◌ {A = Answer × List ℕ} (refused 4, out) (given_in total (after_count (whole k rest)) out)
+-- ---- by what reading found
+
+-- no list was found
+module _ (bytes : List ℕ) (r : Refusal) (e : IsRead bytes (Err r)) where
+  pub read_none : (out : List ℕ) → ◌≡◌ {A = Answer × List ℕ} (refused (number_of r), out) (read_runs_into bytes out)
   unfolding given_in
-  given_4 h = sym (ap (λ (r : ReadRuns). given_in total r out) (after_short k rest h))
+  read_none out = go e
+    where
+      go : IsRead bytes (Err r) → ◌≡◌ {A = Answer × List ℕ} (refused (number_of r), out) (given_in (length bytes) (read_runs bytes) out)
+      go (inl h) = rw (h.0, h.1)
+      go (inr h) = rw (h.0, h.1)
 
-  found_as : 8 * k ≤ length rest → given_in total (after_count (whole k rest)) out ≡ given_in total (found (words k rest) (drop (8 * k) rest)) out
-  found_as h = ap (λ (r : ReadRuns). given_in total r out) (after_found k rest h)
+  pub color_none : (n vertex : ℕ) → refused (number_of r) ≡ sharp_colour_in n vertex (read_runs bytes)
+  unfolding sharp_colour_in
+  color_none n vertex = go e
+    where
+      go : IsRead bytes (Err r) → refused (number_of r) ≡ sharp_colour_in n vertex (read_runs bytes)
+      go (inl h) = rw (h.0, h.1)
+      go (inr h) = rw (h.0, h.1)
 
-  pub given_3 : 8 * k ≤ length rest → length out < k → ◌≡◌ {A = Answer × List ℕ} (refused 3, out) (given_in total (after_count (whole k rest)) out)
+-- a list was found
+module _ (bytes ws rest out : List ℕ) (e : read_runs bytes ≡ found ws rest) where
+  pub read_3 : length out < length ws → ◌≡◌ {A = Answer × List ℕ} (refused 3, out) (read_runs_into bytes out)
   unfolding given_in
-  given_3 h l = sym (found_as h ∙ when_yes _ _ _ (lt-ltb _ _ (subst (λ (x : ℕ). length out < x) (sym (length_words k rest)) l)))
+  read_3 l = sym (ap (λ (r : ReadRuns). given_in (length bytes) r out) e ∙ when_yes _ _ _ (lt-ltb _ _ l))
 
-  pub given_done : (bytes : ℕ) (after : List ℕ) → 8 * k ≤ length rest → k ≤ length out → bytes ≡ total - (length rest - 8 * k) → after ≡ over (words k rest) out
-      → ◌≡◌ {A = Answer × List ℕ} (done (k ∷ bytes ∷ []), after) (given_in total (after_count (whole k rest)) out)
+  pub read_done : (k taken : ℕ) (after : List ℕ) → length ws ≤ length out → k ≡ length ws → taken ≡ length bytes - length rest → after ≡ over ws out
+      → ◌≡◌ {A = Answer × List ℕ} (done (k ∷ taken ∷ []), after) (read_runs_into bytes out)
   unfolding given_in
-  given_done bytes after h l b a =
-      let n : length (words k rest) ≡ k = length_words k rest in
-      let d : length (drop (8 * k) rest) ≡ length rest - 8 * k = length-drop (8 * k) rest in
-      ap₂ (λ (x : Answer) (y : List ℕ). (x, y)) (ap₂ (λ (x y : ℕ). done (x ∷ y ∷ [])) (sym n) (b ∙ ap (λ (x : ℕ). total - x) (sym d))) a
-      ∙ sym (found_as h ∙ when_no _ _ _ (le-ltb _ _ (subst (λ (x : ℕ). x ≤ length out) (sym n) l)))
+  read_done k taken after l i b a =
+      ap₂ (λ (x : Answer) (y : List ℕ). (x, y)) (ap₂ (λ (x y : ℕ). done (x ∷ y ∷ [])) i b) a
+      ∙ sym (ap (λ (r : ReadRuns). given_in (length bytes) r out) e ∙ when_no _ _ _ (le-ltb _ _ l))
 
--- ---- a count that isn't whole, and one that is
+-- ---- by what is read of the count
 
 module _ (bytes : List ℕ) where
-  -- by what is read of the count
   by_count : (q : ReadLeb) → read_prefix bytes ≡ q → read_runs bytes ≡ after_count q
   unfolding read_runs
   by_count q e = ap after_count e
 
-  pub read_up : (out : List ℕ) (r : Refusal) → of_prefix (prefix.Refused r) ≡ prefix_in (length bytes) (read_prefix bytes) → (of_given (up_given (prefix.Refused r)), out) ≡ read_runs_into bytes out
-  unfolding given_in after_count
-  read_up out r e = go (read_prefix bytes) refl e
+  pub count_none : (r : Refusal) → of_prefix (Err r) ≡ prefix_in (length bytes) (read_prefix bytes) → IsRead bytes (Err r)
+  unfolding after_count
+  count_none r e = go (read_prefix bytes) refl e
     where
-      go : (q : ReadLeb) → read_prefix bytes ≡ q → of_prefix (prefix.Refused r) ≡ prefix_in (length bytes) q → (refused (number_of r), out) ≡ read_runs_into bytes out
+      go : (q : ReadLeb) → read_prefix bytes ≡ q → of_prefix (Err r) ≡ prefix_in (length bytes) q → IsRead bytes (Err r)
       go (whole n rest) s e = let x : ◌≡◌ {A = ℕ} 0 1 = cc in absurd (omega arith)
-      go cut s e = ap (λ (a : Answer). (a, out)) e ∙ sym (ap (λ (q : ReadRuns). given_in (length bytes) q out) (by_count cut s))
-      go bad s e = ap (λ (a : Answer). (a, out)) e ∙ sym (ap (λ (q : ReadRuns). given_in (length bytes) q out) (by_count bad s))
+      go cut s e = let v : number_of r ≡ 4 = cc in inl (by_count cut s, v)
+      go bad s e = let v : number_of r ≡ 5 = cc in inr (by_count bad s, v)
 
-  pub color_up : (n vertex : ℕ) (r : Refusal) → of_prefix (prefix.Refused r) ≡ prefix_in (length bytes) (read_prefix bytes) → refused (number_of r) ≡ sharp_colour_in n vertex (read_runs bytes)
-  unfolding sharp_colour_in after_count
-  color_up n vertex r e = go (read_prefix bytes) refl e
-    where
-      go : (q : ReadLeb) → read_prefix bytes ≡ q → of_prefix (prefix.Refused r) ≡ prefix_in (length bytes) q → refused (number_of r) ≡ sharp_colour_in n vertex (read_runs bytes)
-      go (whole n rest) s e = let x : ◌≡◌ {A = ℕ} 0 1 = cc in absurd (omega arith)
-      go cut s e = e ∙ sym (ap (sharp_colour_in n vertex) (by_count cut s))
-      go bad s e = e ∙ sym (ap (sharp_colour_in n vertex) (by_count bad s))
+  module _ (k len : ℕ) (e : of_prefix (Ok (record { value = k; len = len })) ≡ prefix_in (length bytes) (read_prefix bytes)) where
+    pub count_behind : (read_runs bytes ≡ after_count (whole k (drop len bytes))) × (len ≤ length bytes)
+    count_behind = let b = prefix_behind bytes k len e in (by_count _ b.0, b.1)
 
-  pub count_behind : (k len : ℕ) → of_prefix (prefix.Whole k len) ≡ prefix_in (length bytes) (read_prefix bytes) → (after_count (whole k (drop len bytes)) ≡ read_runs bytes) × (len ≤ length bytes)
-  unfolding read_runs
-  count_behind k len e = let b = prefix_behind bytes k len e in (ap after_count (sym b.0), b.1)
+    pub count_cut : length bytes - len < 8 * k → read_runs bytes ≡ short
+    count_cut h = count_behind.0 ∙ after_short k (drop len bytes) (omega (arith, length-drop len bytes))
 
--- ---- the turned cycle as bytes
-
-module _ (ws : List ℕ) (n pivot : ℕ) (r : Bool) where
-  module _ (out : List ℕ) where
-    pub write_turned_7 : most_vertices < n → ◌≡◌ {A = Answer × List ℕ} (refused 7, out) (write_rotated ws n pivot r out)
-    unfolding write_rotated
-    write_turned_7 h = sym (when_yes _ _ _ (lt-ltb _ _ h))
-
-    pub write_turned_6 : n ≤ most_vertices → steady n ws ≡ false → ◌≡◌ {A = Answer × List ℕ} (refused 6, out) (write_rotated ws n pivot r out)
-    unfolding write_rotated
-    write_turned_6 h s = sym (when_no _ _ _ (le-ltb _ _ h) ∙ when_yes _ _ _ (not_yes _ s))
-
-    pub write_turned_lem : n ≤ most_vertices → steady n ws ≡ true → write_runs (rotate_runs n pivot r ws) out ≡ write_rotated ws n pivot r out
-    unfolding write_rotated
-    write_turned_lem h s = sym (when_no _ _ _ (le-ltb _ _ h) ∙ when_no _ _ _ (not_no _ s))
+    pub count_found : 8 * k ≤ length bytes - len → read_runs bytes ≡ found (words k (drop len bytes)) (drop (8 * k) (drop len bytes))
+    count_found h = count_behind.0 ∙ after_found k (drop len bytes) (omega (arith, length-drop len bytes))

@@ -35,6 +35,6 @@ module _ {S : Type 0} {steps : S → Option ℕ → S → Type 0} {s : Enumerate
   numbered_end e = (YieldsList-end road xs t so-far r u e now).1 ∙ length-enumerate_from 0 all
 
 -- an element put at its number
-pub fill_next : (all from out : List ℕ) (xs : List (ℕ × ℕ)) (i x : ℕ) → (i ≡ length xs) × (length xs < length all) × (x ≡ get_or all (length xs) x) → length all ≤ length from
+pub fill_next : (all from out : List ℕ) (xs : List (ℕ × ℕ)) (i x : ℕ) → (i ≡ length xs) × (length xs < length all) × (x ≡ get_or all (length xs) x) → i < length out
     → Filled all from out (length xs) → Filled all from (set out i x) (length (xs ++ ((i, x) ∷ [])))
-fill_next all from out xs i x h room f = rw (length_push xs (i, x), h.0) (fill_more all from out (length xs) x x h.1 (omega (arith, f.long)) h.2 f)
+fill_next all from out xs i x h room f = rw (length_push xs (i, x), h.0) (fill_more all from out (length xs) x x h.1 (omega (arith, h.0)) h.2 f)

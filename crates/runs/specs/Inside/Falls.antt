@@ -1,5 +1,5 @@
 -- Where a list falls: so is counted whether it ascends.
-use Rattle.std.specs.Prelude.{ℕ, zero, suc, ◌+◌, ◌-◌, Bool, ◌&&◌, List, length, get_or, leb, ltb, eqb}
+use Rattle.std.specs.Prelude.{ℕ, zero, suc, ◌+◌, ◌-◌, ◌^◌, ◌<◌, ◌≤◌, Bool, ◌&&◌, List, length, get_or, leb, ltb, eqb}
 use Rattle.base.specs.Tests.{◌when◌else◌}
 use Rattle.runs.specs.Words.{offset}
 use Rattle.runs.specs.Colours.{last_run}
@@ -16,3 +16,8 @@ falls step ws p (suc k) = falls step ws p k + fall step ws (p + k)
 -- the first run begins at 0, each at least `step` vertices behind the one before it, and the last at least `step` before n
 unfoldable pub spaced : ℕ → ℕ → List ℕ → Bool
 spaced step n ws = eqb (offset (get_or ws 0 0)) 0 && eqb (falls step ws 0 (length ws - 1)) 0 && leb (offset (last_run ws) + step) n
+
+-- a step of 0 or 1, and a list whose places are numbers of 64 bits many times over
+pub record Testable (step : ℕ) (ws : List ℕ) : Type 0 where
+  pub small : step ≤ 1
+  pub few : length ws < 2 ^ 61

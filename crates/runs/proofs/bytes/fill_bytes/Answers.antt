@@ -1,29 +1,27 @@
-use Prim.Native.Nat.{◌+◌, ◌*◌}
-use mathlib.Core.Path.{◌≡◌, subst}
-use native.Mathlib.Omega.{arith}
-use lib.ListN.{get_or}
-use Rattle.codec.specs.Flat.{flat}
-use Rattle.runs.specs.Bytes.{le_bytes}
-use Rattle.runs.proofs.Laws.Lists.{Filled, fill_none, fill_end}
-use Rattle.runs.proofs.Laws.Bytes.{length_le, length_flat, block, fill_block}
+-- `runs::bytes::fill_bytes` meets its contract.
+use Rattle.std.proofs.Common.{arith}
+use Rattle.std.proofs.lemmas.Iterator.Consumers.{YieldsList-at}
+use Rattle.runs.proofs.Laws.Lists.{fill_end}
+use Rattle.runs.proofs.Laws.Numbered.{numbered, numbered_end}
+use Rattle.runs.proofs.Laws.Bytes.{length_flat, fill_next_block}
 use Rattle.runs.proofs.bytes.fill_bytes.Goals as goal
 
-pub loop-i-init : goal.loop-i-init
-loop-i-init c = (omega arith, fill_none _ _)
+pub overflow_mul-i : goal.overflow_mul-i
+overflow_mul-i g c =
+    let at = numbered c.requires.all (YieldsList-at (cc) c.requires.gives) (cc) c.loop-i.yielded _ c.loop-i.yielded_by c.next.result c.next.new.self c.next.ensures.steps _ _ c.in-Some.is in
+    omega (arith, at.0, at.1, c.requires.few)
 
 pub put_word-requires : goal.put_word-requires
-put_word-requires c = omega (arith, c.loop-i.invariant.1.long, c.requires)
+put_word-requires g c =
+    let at = numbered c.requires.all (YieldsList-at (cc) c.requires.gives) (cc) c.loop-i.yielded _ c.loop-i.yielded_by c.next.result c.next.new.self c.next.ensures.steps _ _ c.in-Some.is in
+    omega (arith, at.0, at.1, c.requires.few)
 
 pub loop-i-preserved : goal.loop-i-preserved
-loop-i-preserved c =
-    let ws = c.args.runs.now in
-    let i = c.loop-i.i in
-    let g : 8 * i + 8 ≡ 8 * (i + 1) = omega arith in
-    (omega arith, subst (Filled (flat (le_bytes 8) ws) _ _) g (fill_block (flat (le_bytes 8) ws) _ _ _ (le_bytes 8 (get_or ws i 0)) (8 * i) 8 c.loop-i.invariant.1 (omega (arith, c.requires)) (length_le 8 (get_or ws i 0)) (block ws i (omega arith)) c.put_word.ensures))
-
-pub shape_of-out : goal.shape_of-out
-shape_of-out c = c.loop-i.invariant.1.long
+loop-i-preserved g c = λ all e.
+    let at = numbered c.requires.all (YieldsList-at (cc) c.requires.gives) (cc) c.loop-i.yielded _ c.loop-i.yielded_by c.next.result c.next.new.self c.next.ensures.steps _ _ c.in-Some.is in
+    fill_next_block all _ _ _ c.loop-i.yielded _ _ (numbered all (YieldsList-at (cc) e) (cc) c.loop-i.yielded _ c.loop-i.yielded_by c.next.result c.next.new.self c.next.ensures.steps _ _ c.in-Some.is) (omega (arith, at.0, at.1, c.requires.few)) c.put_word.ensures (c.loop-i.invariant all e)
 
 pub returns : goal.returns
-returns c =
-    fill_end _ _ _ (8 * c.loop-i.i) (omega (arith, length_flat c.args.runs.now)) c.loop-i.invariant.1
+returns g c = λ all e.
+    let end = numbered_end all (YieldsList-at (cc) e) (cc) c.loop-i.yielded _ c.loop-i.yielded_by c.next.result c.next.new.self c.next.ensures.steps c.in-None.is in
+    fill_end _ _ _ _ (omega (arith, length_flat all, end)) (c.loop-i.invariant all e)

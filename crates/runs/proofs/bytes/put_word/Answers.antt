@@ -1,34 +1,7 @@
 -- `runs::bytes::put_word` meets its contract.
-use native.Mathlib.Omega.{arith}
-use lib.ListN.{length-set}
-use Rattle.runs.specs.Bytes.{le_bytes}
-use Rattle.runs.proofs.Laws.Bytes.{put_8}
+use Rattle.std.proofs.Common.{◌∙◌}
+use Rattle.runs.proofs.Laws.Bytes.{put_block}
 use Rattle.runs.proofs.bytes.put_word.Goals as goal
 
-pub bounds-out-at-2 : goal.bounds-out-at-2
-bounds-out-at-2 c = simp length-set (omega arith)
-
-pub bounds-out-at-3 : goal.bounds-out-at-3
-bounds-out-at-3 c = simp length-set (omega arith)
-
-pub bounds-out-at-4 : goal.bounds-out-at-4
-bounds-out-at-4 c = simp length-set (omega arith)
-
-pub bounds-out-at-5 : goal.bounds-out-at-5
-bounds-out-at-5 c = simp length-set (omega arith)
-
-pub bounds-out-at-6 : goal.bounds-out-at-6
-bounds-out-at-6 c = simp length-set (omega arith)
-
-pub bounds-out-at-7 : goal.bounds-out-at-7
-bounds-out-at-7 c = simp length-set (omega arith)
-
-pub bounds-out-at-8 : goal.bounds-out-at-8
-bounds-out-at-8 c = simp length-set (omega arith)
-
-pub shape_of-out : goal.shape_of-out
-shape_of-out c = simp length-set
-
 pub returns : goal.returns
-unfolding le_bytes
-returns c = put_8 c.args.out.now c.args.at _ _ _ _ _ _ _ _ c.requires
+returns c = put_block c.args.out.now _ c.args.at c.args.w (c.copy_from_slice.ensures.after ∙ c.to_le_bytes.ensures)

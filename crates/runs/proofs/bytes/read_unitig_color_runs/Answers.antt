@@ -1,28 +1,27 @@
 -- `runs::bytes::read_unitig_color_runs` meets its contract.
-use mathlib.Core.Path.{ap, ◌∙◌}
-use lib.ListN.{length}
-use borrow.Author.Rules.{rules}
-use Rattle.base.proofs.Bools.{via}
-use Rattle.codec.specs.Prefix.{of_prefix}
-use Rattle.runs.specs.Bytes.{given_in}
-use Rattle.runs.proofs.Laws.Bytes.{read_up, count_behind}
-use Rattle.base.specs.Answers.{of_given}
-use Rattle.base.specs.declared.Given.{Given}
-use Rattle.codec.specs.Inside.Prefixes.{up_given}
-use Rattle.runs.specs.Bytes.{ReadRuns}
+use Rattle.std.proofs.Common.{length, length-drop, drop, sym, ap, arith, ◌*◌}
+use Rattle.std.proofs.lemmas.Result.{err_from_is_err_and}
+use Rattle.runs.specs.Inside.Blocks.{runs_of}
+use Rattle.runs.proofs.Laws.Bytes.{length_words, read_none, read_3, read_done}
 use Rattle.runs.proofs.bytes.read_unitig_color_runs.Goals as goal
 
-pub returns-in_default : goal.returns-in_default
-returns-in_default c =
-    let told = c.in_default.is in
-    ap (λ (x : Given). (of_given x, c.args.out.now)) (c.passed_up.ensures ∙ ap up_given told) ∙ read_up c.args.bytes.now c.args.out.now c.in_default.field-0 (via (ap of_prefix told) c.read_varint_len-prefix.ensures)
+pub returns-in_err-list : goal.returns-in_err-list
+returns-in_err-list c =
+    let p = err_from_is_err_and c.from_residual.result c.from_residual.ensures.1 in
+    rw (p.1, p.2) (read_none c.args.bytes.now _ c.in_err-list.ensures c.args.out.now)
 
-pub read_words-requires : goal.read_words-requires
-read_words-requires c =
-    let b = count_behind c.args.bytes.now _ _ (via (ap of_prefix c.in-Whole.is) c.read_varint_len-prefix.ensures) in
-    (b.1, search rules)
+pub returns-then-out-list : goal.returns-then-out-list
+returns-then-out-list c =
+    let list = c.in_ok-list.list in
+    let long = length_words list.count (drop list.at list.bytes.now) in
+    read_3 c.args.bytes.now (runs_of list) _ c.args.out.now c.in_ok-list.ensures.1 (omega arith)
 
 pub returns : goal.returns
 returns c =
-    let b = count_behind c.args.bytes.now _ _ (via (ap of_prefix c.in-Whole.is) c.read_varint_len-prefix.ensures) in
-    c.read_words.ensures ∙ ap (λ (r : ReadRuns). given_in (length c.args.bytes.now) r c.args.out.now) b.0
+    let list = c.in_ok-list.list in
+    let bytes = c.args.bytes.now in
+    let long = length_words list.count (drop list.at list.bytes.now) in
+    let rest = length-drop (8 * list.count) (drop list.at bytes) in
+    let behind = length-drop list.at bytes in
+    let same = ap length c.in_ok-list.ensures.0 in
+    read_done bytes (runs_of list) _ c.args.out.now c.in_ok-list.ensures.1 _ _ _ (omega arith) (sym long) (omega (arith, list.whole)) c.fill.ensures

@@ -1,14 +1,38 @@
 -- `runs::bytes::sharp_color_at` meets its contract.
-use mathlib.Core.Path.{sym, ◌∙◌}
+use Rattle.std.proofs.Common.{ℕ, sym, ap, ◌∙◌, drop, [], ◌∷◌, arith}
+use Rattle.std.proofs.lemmas.Result.{err_from_is_err_and}
 use borrow.Author.Tests.{le-leb, lt-leb}
+use Rattle.base.specs.Answers.{done}
+use Rattle.base.proofs.Bools.{not_no, not_yes}
 use Rattle.base.proofs.Tests.{when_yes, when_no}
-use Rattle.runs.specs.Bytes.{sharp_colour}
+use Rattle.runs.specs.Bytes.{sharp_colour, sharp_colour_in}
+use Rattle.runs.proofs.Laws.Bytes.{length_words, color_none}
 use Rattle.runs.proofs.bytes.sharp_color_at.Goals as goal
 
 pub returns-then-n-vertex : goal.returns-then-n-vertex
 unfolding sharp_colour
 returns-then-n-vertex c = sym (when_yes _ _ _ (le-leb _ _ c.if-n-vertex.true))
 
-pub returns : goal.returns
+pub returns-in_err-list : goal.returns-in_err-list
 unfolding sharp_colour
-returns c = c.sharp_color_in.ensures ∙ sym (when_no _ _ _ (lt-leb _ _ c.if-n-vertex.false))
+returns-in_err-list c =
+    let p = err_from_is_err_and c.from_residual.result c.from_residual.ensures.1 in
+    rw (p.1, p.2) (color_none c.args.bytes.now _ c.in_err-list.ensures c.args.n c.args.vertex ∙ sym (when_no _ _ _ (lt-leb _ _ c.if-n-vertex.false)))
+
+pub are_sharp-requires : goal.are_sharp-requires
+are_sharp-requires c =
+    let list = c.in_ok-list.list in
+    record { small = omega arith; few = omega (arith, length_words list.count (drop list.at list.bytes.now), list.few) }
+
+pub returns-then-not-are_sharp : goal.returns-then-not-are_sharp
+unfolding sharp_colour sharp_colour_in
+returns-then-not-are_sharp c =
+    sym (when_no _ _ _ (lt-leb _ _ c.if-n-vertex.false) ∙ ap (sharp_colour_in c.args.n c.args.vertex) c.in_ok-list.ensures.1
+    ∙ when_yes _ _ _ (not_yes _ (sym c.are_sharp.ensures ∙ c.if-not-are_sharp.true)))
+
+pub returns : goal.returns
+unfolding sharp_colour sharp_colour_in
+returns c =
+    ap (λ (x : ℕ). done (x ∷ [])) c.color_at.ensures
+    ∙ sym (when_no _ _ _ (lt-leb _ _ c.if-n-vertex.false) ∙ ap (sharp_colour_in c.args.n c.args.vertex) c.in_ok-list.ensures.1
+    ∙ when_no _ _ _ (not_no _ (sym c.are_sharp.ensures ∙ c.if-not-are_sharp.false)))

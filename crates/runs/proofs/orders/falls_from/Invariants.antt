@@ -6,4 +6,4 @@ use Rattle.runs.specs.Inside.Falls.{falls}
 use Rattle.runs.proofs.orders.falls_from.Given as goal
 
 abbrev pub invariant-loop-i : goal.invariant-loop-i
-invariant-loop-i l = (l.from ≤ l.i) × (l.i < length l.runs) × (l.count ≤ l.i) × (l.count ≡ falls l.step l.runs l.from (l.i - l.from))
+invariant-loop-i g l = (l.from ≤ l.i) × (l.i < length (g.R.Runs.list l.runs)) × (l.count ≤ l.i) × (l.count ≡ falls l.step (g.R.Runs.list l.runs) l.from (l.i - l.from))

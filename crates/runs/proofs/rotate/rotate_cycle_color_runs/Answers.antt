@@ -1,30 +1,29 @@
 -- `runs::rotate::rotate_cycle_color_runs` meets its contract.
-use Prim.Native.Nat.{ℕ, ◌≤◌, ◌<◌}
-use mathlib.Core.Path.{◌≡◌, sym, ap, ◌∙◌, subst}
-use mathlib.Core.Bool.{true}
-use mathlib.Core.List.{List}
-use lib.ListN.{length}
+use Rattle.std.proofs.Common.{ℕ, ◌≡◌, ◌≤◌, ◌<◌, List, length, refl, ap, subst, ◌∙◌, arith}
+use Rattle.std.proofs.lemmas.Result.{err_from_is_err_and}
+use Rattle.std.proofs.lemmas.Iterator.Consumers.{YieldsList-from_first}
 use Rattle.base.specs.Parts.{over}
-use Rattle.runs.specs.Orders.{steady}
-use Rattle.runs.proofs.Laws.Orders.{taken}
-use Rattle.runs.proofs.Laws.Answers.{list_7, list_6, list_3, list_done}
+use Rattle.runs.specs.Inside.Turned.{ahead}
+use Rattle.runs.proofs.Laws.Answers.{list_refused, list_3, list_done}
 use Rattle.runs.proofs.rotate.rotate_cycle_color_runs.Goals as goal
 
-pub returns-then-n-gt16777215 : goal.returns-then-n-gt16777215
-returns-then-n-gt16777215 c = list_7 _ _ _ _ c.if-n-gt16777215.true
-
-pub returns-then-not-is_steady : goal.returns-then-not-is_steady
-returns-then-not-is_steady c = list_6 _ _ _ _ c.if-n-gt16777215.false (sym c.is_steady.ensures ∙ c.if-not-is_steady.true)
-
-pub invariant_of-turned : goal.invariant_of-turned
-invariant_of-turned c = record { taken = taken _ _ c.if-n-gt16777215.false (sym c.is_steady.ensures ∙ c.if-not-is_steady.false) }
+pub returns-in_err-check_steady : goal.returns-in_err-check_steady
+returns-in_err-check_steady c =
+    let p = err_from_is_err_and c.from_residual.result c.from_residual.ensures.1 in
+    rw (p.1, p.2) (list_refused _ _ _ _ _ c.in_err-check_steady.ensures)
 
 pub returns-then-out-count : goal.returns-then-out-count
 returns-then-out-count c =
-    let good : steady c.args.n c.args.runs.now ≡ true = sym c.is_steady.ensures ∙ c.if-not-is_steady.false in
-    list_3 _ _ _ _ c.if-n-gt16777215.false good (subst (λ (x : ℕ). length c.args.out.now < x) (c.count-count.ensures ∙ ap length c.turned-cycle.ensures) c.if-out-count.true)
+    list_3 _ _ _ _ c.in_ok-check_steady.ensures (subst (λ (x : ℕ). length c.args.out.now < x) (c.count-count.ensures ∙ ap length c.turned-cycle.ensures) c.if-out-count.true)
+
+pub fill-requires : goal.fill-requires
+fill-requires c =
+    let all = ahead c.turned-cycle.result in
+    let few : length all ≤ length c.args.out.now = omega (arith, c.count-count.ensures) in
+    record { asked = tt; ends = (tt, few); all = all; gives = YieldsList-from_first (λ x. x) ahead all refl; few = few }
 
 pub returns : goal.returns
 returns c =
-    let good : steady c.args.n c.args.runs.now ≡ true = sym c.is_steady.ensures ∙ c.if-not-is_steady.false in
-    list_done _ _ _ c.args.out.now _ _ c.if-n-gt16777215.false good (c.count-count.ensures ∙ ap length c.turned-cycle.ensures) c.if-out-count.false (c.fill.ensures ∙ ap (λ (x : List ℕ). over x c.args.out.now) c.turned-cycle.ensures)
+    let all = ahead c.turned-cycle.result in
+    let filled : c.fill.new.out ≡ over all c.args.out.now = c.fill.ensures all (YieldsList-from_first (λ x. x) ahead all refl) in
+    list_done _ _ _ c.args.out.now c.in_ok-check_steady.ensures _ _ (c.count-count.ensures ∙ ap length c.turned-cycle.ensures) c.if-out-count.false (filled ∙ ap (λ (x : List ℕ). over x c.args.out.now) c.turned-cycle.ensures)

@@ -1,8 +1,0 @@
--- `runs::bytes::passed_up` meets its contract.
-use Rattle.runs.proofs.bytes.passed_up.Goals as goal
-
-pub returns-in-Whole : goal.returns-in-Whole
-returns-in-Whole c = cc
-
-pub returns-in-Refused : goal.returns-in-Refused
-returns-in-Refused c = cc

@@ -1,0 +1,83 @@
+// Runs that stand as bytes, eight a run, low first.
+ghost use Rattle.std.specs.Prelude.{◌≡◌, ◌+◌, ◌*◌, ◌<◌, ◌≤◌, length};
+
+use crate::listed::Runs;
+use crate::words;
+use base::Refusal;
+use codec::prefix::Prefix;
+
+// The `count` runs of the bytes from `at` on.
+#[derive(Clone, Copy)]
+pub(crate) struct Blocks<'a> {
+    pub(crate) bytes: &'a [u8],
+    pub(crate) at: usize,
+    pub(crate) count: usize,
+    ghost whole: { at + 8 * count ≤ length bytes.now },
+    ghost few: { count < 4294967296 },
+}
+
+impl<'a> Blocks<'a> {
+    ghost use Rattle.base.specs.Parts.{over};
+    ghost use Rattle.runs.specs.Colours.{colour_at};
+    ghost use Rattle.runs.specs.Inside.Blocks.{runs_of, IsRead};
+
+    // The list at the front of the bytes: 4 or 5 of its count, 4.
+    pub(crate) fn read(bytes: &'a [u8]) -> Result<Blocks<'a>, Refusal>
+        ensures { IsRead bytes.now result }
+    {
+        let Prefix { value, len } = codec::prefix::read_varint_len(bytes)?;
+        let count = value as usize;
+        if bytes.len() - len < 8 * count {
+            return Err(Refusal::Cut);
+        }
+        Ok(Blocks {
+            bytes,
+            at: len,
+            count,
+        })
+    }
+
+    // All of them to the front of `out`.
+    #[tactic(auto, using(crate::proofs::Laws::Bytes::length_words, crate::proofs::Laws::Lists::fill_end))]
+    pub(crate) fn fill(&self, out: &mut [u64])
+        requires { self.now.count ≤ length out.old }
+        ensures { out.new ≡ over (runs_of self.now) out.old }
+    {
+        for i in 0..self.count {
+            out[i] = self.run_at(i);
+        }
+    }
+
+    // The coordinate of a vertex by them.
+    #[tactic(auto, using(crate::proofs::Laws::Bytes::length_words))]
+    pub(crate) fn color_at(&self, vertex: u32) -> u64
+        ensures { result ≡ colour_at vertex (runs_of self.now) }
+    {
+        let mut c: u64 = 0;
+        for i in 0..self.count {
+            let w = self.run_at(i);
+            if vertex < words::offset(w) {
+                return c;
+            }
+            c = words::coordinate(w);
+        }
+        c
+    }
+}
+
+impl Runs for Blocks<'_> {
+    ghost use Rattle.runs.specs.Inside.Blocks.{runs_of};
+
+    ghost list = { runs_of };
+
+    #[tactic(auto, using(crate::proofs::Laws::Bytes::length_words))]
+    fn count(&self) -> usize {
+        self.count
+    }
+
+    #[tactic(auto, using(crate::proofs::Laws::Bytes::length_words))]
+    fn run_at(&self, i: usize) -> u64 {
+        let block = self.bytes[self.at + 8 * i..].first_chunk();
+        u64::from_le_bytes(*block.unwrap())
+    }
+}
