@@ -29,9 +29,7 @@ fn bad_counts(a: u32, b: u32) -> bool
 fn is_joinable(runs: &[u64], n: u32) -> bool
     ensures { result ≡ joinable n runs.now }
 {
-    !runs.is_empty()
-        && orders::is_steady(runs, n)
-        && words::offset(runs[runs.len() - 1]) < n
+    !runs.is_empty() && orders::is_steady(runs, n) && words::offset(runs[runs.len() - 1]) < n
 }
 
 // How many runs of the piece are dropped behind a list: 1 where its first coordinate is the list's last.
@@ -58,7 +56,12 @@ fn fill_appended(out: &mut [u64], used: usize, shift: u32, piece: &Oriented, fro
 }
 
 // The piece behind the output, where both are as admitted.
-fn append_admitted(out: &mut [u64], used: usize, out_count: u32, piece: &Oriented) -> Result<Appended, Refusal>
+fn append_admitted(
+    out: &mut [u64],
+    used: usize,
+    out_count: u32,
+    piece: &Oriented,
+) -> Result<Appended, Refusal>
     requires { Admitted out.old used out_count piece.now.runs.now piece.now.n }
     ensures { (of_appended result, out.new) ≡ result_into (append_runs (take used out.old) out_count piece.now.runs.now piece.now.n piece.now.reversed) (out_count + piece.now.n - 1) out.old }
 {

@@ -39,11 +39,7 @@ fn fill_bytes<I: Iterator<Item = u64>>(runs: I, out: &mut [u8])
 }
 
 // The `count` runs that the iterator gives, as bytes to the front of `out`.
-fn write<I: Iterator<Item = u64>>(
-    count: usize,
-    runs: I,
-    out: &mut [u8],
-) -> Result<usize, Refusal>
+fn write<I: Iterator<Item = u64>>(count: usize, runs: I, out: &mut [u8]) -> Result<usize, Refusal>
     requires yields { YieldsUpTo I.can_next I.next_gives I.remaining runs count }
     requires counted { count < 4294967296 }
     ensures { (all : List ℕ) → YieldsAll I.next_gives runs all → length all ≡ count → (of_written result, out.new) ≡ write_runs all out.old }

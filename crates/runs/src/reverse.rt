@@ -35,7 +35,7 @@ pub fn orient_color_runs(
     }
     let list = Oriented { runs, n, reversed };
     list.fill(0, out);
-    Ok(runs.len())
+    Ok(list.runs.len())
 }
 
 // The reversed list to the front of `out`.

@@ -6,8 +6,8 @@ ghost use Rattle.runs.specs.Inside.Turned.{ahead};
 ghost use Rattle.runs.specs.Inside.Yields.{YieldsAll, YieldsUpTo};
 ghost use Rattle.runs.specs.Rotate.{rotate_runs, rotate_into};
 
-use crate::oriented::Oriented;
 use crate::orders;
+use crate::oriented::Oriented;
 use crate::turned::{Turn, Turned};
 use base::Refusal;
 

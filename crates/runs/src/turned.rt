@@ -82,6 +82,8 @@ impl Iterator for Turned<'_> {
 
     ghost remaining = { item_count ahead };
 
+    // Inlined: so a loop keeps the step and the colour in registers.
+    #[inline(always)]
     fn next(&mut self) -> Option<u64> {
         let turn = self.turn;
         let colour = self.colour;

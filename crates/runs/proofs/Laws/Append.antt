@@ -6,7 +6,7 @@ use mathlib.Core.List.{List, [], ◌∷◌, ◌++◌}
 use native.Mathlib.Omega.{arith}
 use borrow.Author.Tests.{lt-ltb, le-ltb, eq-eqb, ne_eqb, eqb-false, ltb-true, ltb-false}
 use lib.ListN.{length, take, drop, get_or, length-append, length-drop}
-use lib.Seq.{length-take-le, get_or-take, paste, take_all}
+use lib.Seq.{length-take-le, paste, take_all}
 use lib.Dec.{ltb, eqb}
 use Rattle.base.specs.Tests.{◌when◌else◌}
 use Rattle.base.specs.Answers.{Answer, refused, done}
@@ -15,7 +15,7 @@ use Rattle.base.proofs.Tests.{when_yes, when_no}
 use Rattle.base.proofs.Bools.{not_no, not_yes, and_true, false_true}
 use Rattle.runs.specs.Words.{offset, coordinate, pack}
 use Rattle.runs.specs.Colours.{last_run, first_coord, last_coord}
-use Rattle.runs.specs.Orders.{most_vertices, steady, sharp}
+use Rattle.runs.specs.Orders.{most_vertices, sharp}
 use Rattle.runs.specs.Inside.Lists.{Steady}
 use Rattle.runs.specs.Reverse.{oriented}
 use Rattle.runs.specs.Append.{shifted, skip, appendix, append_runs, joinable, bad_counts, result_into, append_into}
@@ -58,24 +58,6 @@ joinable_is n ws e =
     some false p q = pos (eqb-false _ _ p)
 
 module _ (n : ℕ) (ws : List ℕ) (used : ℕ) (inside : used ≤ length ws) where
-  pub last_take : 0 < used → last_run (take used ws) ≡ get_or ws (used - 1) 0
-  last_take h = ap (λ (k : ℕ). get_or (take used ws) (k - 1) 0) (length-take-le used ws inside) ∙ get_or-take used ws (used - 1) 0 (omega arith)
-
-  pub open_none : used ≡ 0 → joinable n (take used ws) ≡ false
-  unfolding joinable
-  open_none e = rw (eq-eqb (length (take used ws)) 0 (length-take-le used ws inside ∙ e))
-
-  some : (used ≡ 0 → ⊥) → eqb (length (take used ws)) 0 ≡ false
-  some h = ne_eqb _ _ (λ e. h (sym (length-take-le used ws inside) ∙ e))
-
-  pub open_bad : (used ≡ 0 → ⊥) → steady n (take used ws) ≡ false → joinable n (take used ws) ≡ false
-  unfolding joinable
-  open_bad h e = rw (some h, e)
-
-  pub open_last : (used ≡ 0 → ⊥) → steady n (take used ws) ≡ true → joinable n (take used ws) ≡ ltb (offset (get_or ws (used - 1) 0)) n
-  unfolding joinable
-  open_last h e = rw (some h, e) (ap (λ (w : ℕ). ltb (offset w) n) (last_take (omega (arith, h))))
-
   pub open_some : joinable n (take used ws) ≡ true → 0 < used
   open_some e = omega (arith, (joinable_is n (take used ws) e).some, length-take-le used ws inside)
 

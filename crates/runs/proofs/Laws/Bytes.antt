@@ -9,15 +9,14 @@ use mathlib.Core.List.{List, [], ◌∷◌, ◌++◌, append_assoc}
 use native.Mathlib.Omega.{arith}
 use native.Mathlib.Nat.{pow-suc, div-lt_iff_lt-mul}
 use borrow.Author.Tests.{lt-ltb, le-ltb, ltb-false}
-use lib.ListN.{length, take, drop, get_or, set, length-append, length-drop, take-append-drop}
-use lib.Seq.{sets-eq, drop-cons, drop-append-add, take_at, drop_at, take-add, drop-drop, length-take-le, drop-append_seam, take-append_seam, get_or-drop, get_or-append-add}
+use lib.ListN.{length, take, drop, get_or, length-append, length-drop, take-append-drop}
+use lib.Seq.{drop-cons, drop-append-add, take_at, drop_at, take-add, drop-drop, length-take-le, drop-append_seam, take-append_seam, get_or-drop, get_or-append-add}
 use lib.Dec.{ltb, lit<}
 use Rattle.base.specs.Tests.{◌when◌else◌}
 use Rattle.base.specs.Answers.{Answer, refused, done, number_of, of_written}
 use Rattle.base.specs.declared.Refusal.{Refusal}
 use Rattle.base.specs.Parts.{over}
 use Rattle.base.proofs.Tests.{when_yes, when_no}
-use Rattle.base.proofs.Bools.{not_no, not_yes}
 use Rattle.base.proofs.Parts.{over_behind, tail_is, put_tail}
 use Rattle.codec.specs.Bits.{AreBytes}
 use Rattle.codec.specs.Flat.{flat}
@@ -25,9 +24,7 @@ use Rattle.codec.specs.Prefix.{prefix_of, ReadLeb, whole, cut, bad, read_prefix,
 use Rattle.codec.proofs.Laws.Prefix.{prefix_read, prefix_behind}
 use Rattle.codec.proofs.Laws.Records.{prefix_only}
 use Rattle.runs.specs.Words.{AreWords}
-use Rattle.runs.specs.Orders.{most_vertices, steady}
-use Rattle.runs.specs.Rotate.{rotate_runs}
-use Rattle.runs.specs.Bytes.{le_bytes, le_value, run_bytes, words, ReadRuns, found, short, after_count, read_runs, write_runs, given_in, read_runs_into, write_rotated, sharp_colour_in}
+use Rattle.runs.specs.Bytes.{le_bytes, le_value, run_bytes, words, ReadRuns, found, short, after_count, read_runs, write_runs, given_in, read_runs_into, sharp_colour_in}
 use Rattle.runs.specs.Inside.Blocks.{IsRead}
 use Rattle.std.proofs.lemmas.List.{length_push, get_or_default}
 use Rattle.runs.proofs.Laws.Lists.{Filled}
@@ -160,9 +157,6 @@ value_bytes (suc k) w h =
 -- the word at its place in the bytes is the run
 pub word_there : (bytes : List ℕ) (at count i w : ℕ) → i < count → w ≡ le_value (take 8 (drop (at + 8 * i) bytes)) → w ≡ get_or (words count (drop at bytes)) i 0
 word_there bytes at count i w h e = e ∙ ap (λ (x : List ℕ). le_value (take 8 x)) (sym (drop-drop (8 * i) at bytes)) ∙ sym (word_is count (drop at bytes) i h)
-
-pub word_first : (bytes : List ℕ) (at count w : ℕ) → 0 < count → w ≡ le_value (take 8 (drop at bytes)) → w ≡ get_or (words count (drop at bytes)) 0 0
-word_first bytes at count w h e = e ∙ sym (word_is count (drop at bytes) 0 h)
 
 -- ---- writing
 

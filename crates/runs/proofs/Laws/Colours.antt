@@ -12,7 +12,7 @@ use lib.Seq.{drop-cons}
 use Rattle.runs.specs.Words.{offset, coordinate}
 use Rattle.base.specs.Tests.{◌when◌else◌}
 use Rattle.base.proofs.Tests.{when_yes, when_no}
-use Rattle.runs.specs.Colours.{next, end_at, colours, colour_from, last_coord}
+use Rattle.runs.specs.Colours.{next, end_at, colours, colour_from}
 use Rattle.runs.specs.Inside.Lists.{Steady}
 use Rattle.runs.proofs.Laws.Lists.{get_or_behind}
 use Rattle.runs.proofs.Laws.Orders.{Up, tail_up, next_le, next_up, starts_zero}
@@ -76,10 +76,6 @@ module _ (c vertex i : ℕ) (ws : List ℕ) where
   pub colour_end : length ws ≤ i → colour_from c vertex (drop i ws) ≡ c
   unfolding colour_from
   colour_end l = ap (colour_from c vertex) (drop_of_length-le ws {i = i} l)
-
-pub last_none : (ws : List ℕ) → length ws ≡ 0 → 0 ≡ last_coord ws
-last_none [] e = refl
-last_none (w ∷ ws) e = absurd (omega arith)
 
 -- ---- the coordinate of a vertex is its colour
 

@@ -15,9 +15,9 @@ use Rattle.runs.specs.Colours.{next, end_at, colours}
 use Rattle.runs.specs.Inside.Lists.{Steady, Taken}
 use Rattle.runs.specs.Reverse.{oriented}
 use Rattle.runs.specs.Rotate.{turn_left, firsts, runs_at, merged, rotate_runs}
-use Rattle.runs.specs.Inside.Cursor.{begins, merged_from, turned, second_round, step_start, step_colour, runs_from_step, Parted, GivesRun, NextRun}
+use Rattle.runs.specs.Inside.Cursor.{begins, merged_from, turned, second_round, step_start, step_colour, runs_from_step, Parted, GivesRun}
 use Rattle.runs.specs.declared.turned.Part.{Part}
-use Rattle.runs.proofs.Laws.Lists.{split_run, length_turn, turn_front, turn_back, drop_head}
+use Rattle.runs.proofs.Laws.Lists.{split_run, length_turn, turn_front, turn_back}
 use Rattle.runs.proofs.Laws.Orders.{run_begins as begins-at, end_le, starts_zero}
 use Rattle.runs.proofs.Laws.Colours.{length_colours, steady_long, steady_at}
 use Rattle.runs.proofs.Laws.Reverse.{oriented_steady}
@@ -202,38 +202,6 @@ none_ahead n p (w ∷ ws) j c s inside h =
     let f : next n (drop k os) ≡ n = ap (next n) d in
     let g : step_start n p os j ≡ n = e ∙ omega arith in
     ap (merged_from (step_start n p os j) c) (drop_of_length-le (turned n p os) {i = step_start n p os j} (omega (arith, long n p os s inside (omega arith))))
-
--- ---- one run after another
-
-module _ (n p : ℕ) (os : List ℕ) (s : Steady n os) (inside : p ≤ n) (j c r : ℕ) (next-is : NextRun n p os j c r) where
-  pub at_end : length os + length os ≤ r → length (runs_from_step n p os j c) ≡ 0
-  at_end h = ap length (next-is.same ∙ none_ahead n p os r c s inside h)
-
-  pub one_more : r < length os + length os → length (runs_from_step n p os j c) ≡ suc (length (runs_from_step n p os (r + 1) (step_colour os r)))
-  one_more h = ap length (next-is.same ∙ give n p os s inside r c h (next-is.found h))
-
-  -- of a list whose runs from i on are ahead of step j
-  module _ (all : List ℕ) (i : ℕ) (at : drop i all ≡ runs_from_step n p os j c) (more : i < length all) where
-    pub goes : r < length os + length os
-    goes = go (dec_lt r (length os + length os))
-      where
-        go : Dec (r < length os + length os) → r < length os + length os
-        go (yes h) = h
-        go (no h) = absurd (omega (arith, at_end (omega arith), ap length at, length-drop i all))
-
-    head : (pack (step_start n p os r) (step_colour os r) ≡ get_or all i 0) × (drop (i + 1) all ≡ runs_from_step n p os (r + 1) (step_colour os r))
-    head = let h = drop_head all i _ 0 _ (at ∙ next-is.same ∙ give n p os s inside r c goes (next-is.found goes)) in (h.1, h.2)
-
-    module _ (q : Part) (part : Parted n p os r q) where
-      pub run_is : pack q.begin q.colour ≡ get_or all i 0
-      run_is = ap₂ pack part.starts part.coloured ∙ head.0
-
-      pub rest_is : drop (i + 1) all ≡ runs_from_step n p os (r + 1) q.colour
-      rest_is = head.1 ∙ ap (runs_from_step n p os (r + 1)) (sym part.coloured)
-
-      -- it begins before it ends, and so below n
-      pub run_small : q.begin < n
-      run_small = omega (arith, (next-is.found goes).0, part.starts, part.ends, part.inside)
 
 -- ---- before the first step
 

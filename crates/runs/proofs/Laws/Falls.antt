@@ -16,7 +16,6 @@ use Rattle.base.proofs.Bools.{and_true, and_both}
 use Rattle.runs.specs.Words.{offset}
 use Rattle.runs.specs.Colours.{next, end_at}
 use Rattle.runs.specs.Orders.{steady, sharp}
-use Rattle.runs.specs.Inside.Lists.{Steady, Sharp}
 use Rattle.runs.specs.Inside.Falls.{fall, falls, spaced}
 use Rattle.runs.proofs.Laws.Orders.{run_begins, steady_yes, yes_steady, sharp_yes, yes_sharp}
 

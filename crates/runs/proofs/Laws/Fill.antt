@@ -1,6 +1,6 @@
 -- Runs put to the front of an output: the first of an oriented list, and those behind it.
 use Prim.Native.Nat.{ℕ, suc, ◌+◌, ◌-◌, ◌≤◌, ◌<◌}
-use mathlib.Core.Path.{◌≡◌, refl, sym, ap, ap₂, ◌∙◌, subst}
+use mathlib.Core.Path.{◌≡◌, refl, sym, ap, ap₂, ◌∙◌}
 use mathlib.Core.Bool.{Bool, true, false}
 use mathlib.Core.List.{List, [], ◌∷◌, ◌++◌, append_assoc}
 use native.Mathlib.Omega.{arith}
@@ -9,16 +9,16 @@ use lib.ListN.{length, take, drop, get_or, set, length-drop}
 use lib.Seq.{get_or-drop, drop-drop, take_all, paste}
 use Rattle.base.specs.Parts.{over}
 use Rattle.base.proofs.Parts.{length_over, over_behind, tail_is, put_tail}
-use Rattle.runs.specs.Words.{offset, coordinate, pack, AreWords}
+use Rattle.runs.specs.Words.{offset, coordinate, pack}
 use Rattle.runs.specs.Colours.{end_at, first_coord}
 use Rattle.runs.specs.Inside.Lists.{Taken}
 use Rattle.runs.specs.Reverse.{reverse_runs, oriented}
 use Rattle.runs.specs.Append.{shift, shifted}
 use Rattle.runs.specs.Inside.Pieces.{Movable}
 use Rattle.runs.proofs.Laws.Lists.{Filled, fill_more, fill_end}
-use Rattle.runs.proofs.Laws.Words.{offset_pack, coordinate_pack, pack_of, coordinate_small}
+use Rattle.runs.proofs.Laws.Words.{offset_pack, coordinate_pack, pack_of}
 use Rattle.runs.proofs.Laws.Orders.{run_begins, offset_le, end_le}
-use Rattle.runs.proofs.Laws.Reverse.{length_reversed, reversed_at, oriented_long, oriented_steady, first_back}
+use Rattle.runs.proofs.Laws.Reverse.{length_reversed, reversed_at, oriented_long, oriented_steady}
 use Rattle.runs.proofs.Laws.Append.{length_shifted, shifted_at}
 
 -- ---- a part of an output from `used` on
@@ -136,10 +136,3 @@ module _ (n k : ℕ) (ws : List ℕ) (t : Taken n ws) where
         ∙ ap₂ (λ (a b : List ℕ). a ++ b) (front_take x out mid m) (f ∙ ap (over (shifted k (drop 1 os))) (tail_is 1 mid ∙ front_drop x out mid m))
         ∙ over_behind (x ∷ []) (shifted k (drop 1 os)) out
         ∙ ap (λ (l : List ℕ). over l out) (ap (λ (z : ℕ). z ∷ shifted k (drop 1 os)) (first_is x c e q) ∙ sym (split os (omega (arith, oriented_long r n ws))))
-
-    pub first_narrow : AreWords ws → first_coord (oriented r n ws) < 1099511627776
-    first_narrow h = go r
-      where
-        go : (r : Bool) → first_coord (oriented r n ws) < 1099511627776
-        go true = subst (λ (x : ℕ). x < 1099511627776) (sym (first_back n ws some)) (coordinate_small (get_or ws (length ws - 1) 0) (h (length ws - 1)))
-        go false = coordinate_small (get_or ws 0 0) (h 0)

@@ -1,14 +1,12 @@
 -- Laws of steady and sharp lists.
 use Prim.Native.Nat.{ℕ, zero, suc, ◌+◌, ◌≤◌, ◌<◌}
-use mathlib.Core.Path.{◌≡◌, refl, sym, ap, ◌∙◌}
-use mathlib.Core.Bool.{Bool, true, false, ◌&&◌}
+use mathlib.Core.Path.{◌≡◌, refl, ap, ◌∙◌}
+use mathlib.Core.Bool.{true, false}
 use mathlib.Core.List.{List, [], ◌∷◌}
 use native.Mathlib.Omega.{arith}
-use native.Mathlib.Numerals.{add-one}
-use borrow.Author.Tests.{leb-true, ltb-true, eqb-true, le-leb, lt-ltb, le-ltb, eq-eqb, ne_eqb}
-use lib.ListN.{length, drop, get_or, drop_of_length-le}
+use borrow.Author.Tests.{leb-true, ltb-true, eqb-true, le-leb, lt-ltb, eq-eqb}
+use lib.ListN.{length, drop, get_or}
 use lib.Seq.{drop-cons}
-use lib.Dec.{ltb}
 use Rattle.base.proofs.Bools.{and_true, and_both, false_true}
 use Rattle.runs.specs.Words.{offset}
 use Rattle.runs.specs.Colours.{next, end_at}
@@ -153,35 +151,7 @@ unfolding steady
 steady_none n [] e = refl
 steady_none n (w ∷ ws) e = absurd (omega arith)
 
-pub steady_bad : (n : ℕ) (ws : List ℕ) → (length ws ≡ 0 → ⊥) → (offset (get_or ws 0 0) ≡ 0 → ⊥) → steady n ws ≡ false
-unfolding steady
-steady_bad n [] h e = absurd (h refl)
-steady_bad n (w ∷ ws) h e = rw (ne_eqb (offset w) 0 e)
-
 pub sharp_none : (n : ℕ) (ws : List ℕ) → length ws ≡ 0 → sharp n ws ≡ false
 unfolding sharp
 sharp_none n [] e = refl
 sharp_none n (w ∷ ws) e = absurd (omega arith)
-
-pub sharp_bad : (n : ℕ) (ws : List ℕ) → (length ws ≡ 0 → ⊥) → (offset (get_or ws 0 0) ≡ 0 → ⊥) → sharp n ws ≡ false
-unfolding sharp
-sharp_bad n [] h e = absurd (h refl)
-sharp_bad n (w ∷ ws) h e = rw (ne_eqb (offset w) 0 e)
-
-pub sharp_in : (n : ℕ) (ws : List ℕ) → (length ws ≡ 0 → ⊥) → offset (get_or ws 0 0) ≡ 0 → sharp n ws ≡ climbs n 0 (drop 1 ws)
-unfolding sharp
-sharp_in n [] h e = absurd (h refl)
-sharp_in n (w ∷ ws) h e = rw (eq-eqb (offset w) 0 e)
-
-pub strict_more : (n at i : ℕ) (ws : List ℕ) → i < length ws → at < offset (get_or ws i 0) → climbs n at (drop i ws) ≡ climbs n (offset (get_or ws i 0)) (drop (i + 1) ws)
-unfolding climbs
-strict_more n at i ws l h =
-    ap (climbs n at) (drop-cons ws i 0 l) ∙ ap (λ (b : Bool). b && climbs n (offset (get_or ws i 0)) (drop (suc i) ws)) (lt-ltb at (offset (get_or ws i 0)) h) ∙ ap (λ (k : ℕ). climbs n (offset (get_or ws i 0)) (drop k ws)) (sym (add-one i))
-
-pub strict_bad : (n at i : ℕ) (ws : List ℕ) → i < length ws → offset (get_or ws i 0) ≤ at → climbs n at (drop i ws) ≡ false
-unfolding climbs
-strict_bad n at i ws l h = ap (climbs n at) (drop-cons ws i 0 l) ∙ ap (λ (b : Bool). b && climbs n (offset (get_or ws i 0)) (drop (suc i) ws)) (le-ltb at (offset (get_or ws i 0)) h)
-
-pub strict_end : (n at i : ℕ) (ws : List ℕ) → length ws ≤ i → climbs n at (drop i ws) ≡ ltb at n
-unfolding climbs
-strict_end n at i ws l = ap (climbs n at) (drop_of_length-le ws {i = i} l)

@@ -1,5 +1,5 @@
 -- The runs that stand as bytes, as the struct holds them.
-use Rattle.std.specs.Prelude.{ℕ, ◌≡◌, ◌+◌, ◌*◌, ◌⊎◌, List, drop, Result, Ok, Err}
+use Rattle.std.specs.Prelude.{ℕ, ◌≡◌, ◌*◌, ◌⊎◌, List, drop, Result, Ok, Err}
 use Rattle.base.specs.Answers.{number_of}
 use Rattle.base.specs.declared.Refusal.{Refusal}
 use Rattle.runs.specs.Bytes.{words, found, short, damaged, read_runs}

@@ -52,10 +52,3 @@ pub record Parted (n p : ℕ) (os : List ℕ) (j : ℕ) (r : Part) : Type 0 wher
 -- step j gives a run, behind a vertex of colour c
 abbrev pub GivesRun : ℕ → ℕ → List ℕ → ℕ → ℕ → Type 0
 GivesRun n p os j c = (step_start n p os j < step_start n p os (j + 1)) × (begins (step_start n p os j) c (step_colour os j) ≡ true)
-
--- the first step from j on that gives a run, or the number of steps
-pub record NextRun (n p : ℕ) (os : List ℕ) (j c r : ℕ) : Type 0 where
-  pub from : j ≤ r
-  pub inside : r ≤ length os + length os
-  pub same : runs_from_step n p os j c ≡ runs_from_step n p os r c
-  pub found : r < length os + length os → GivesRun n p os r c

@@ -1,5 +1,5 @@
 -- `runs::orders::falls_in_eighths` meets its contract.
-use Prim.Native.Nat.{◌-◌, ◌*◌, ◌≤◌}
+use Prim.Native.Nat.{◌*◌, ◌≤◌}
 use mathlib.Core.Path.{◌≡◌}
 use Rattle.runs.proofs.Laws.Falls.{in_eighths}
 use Rattle.runs.proofs.orders.falls_in_eighths.Given as goal

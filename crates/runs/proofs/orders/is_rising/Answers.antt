@@ -3,7 +3,6 @@ use Prim.Native.Nat.{ℕ, ◌-◌, ◌/◌}
 use mathlib.Core.Path.{sym, ap, ◌∙◌}
 use native.Mathlib.Omega.{arith}
 use borrow.Author.Tests.{ne_eqb}
-use lib.ListN.{length}
 use lib.Dec.{eqb}
 use Rattle.runs.proofs.Laws.Falls.{falls_early, falls_late}
 use Rattle.runs.proofs.orders.is_rising.Goals as goal

@@ -1,5 +1,5 @@
 -- `runs::orders::is_spaced` meets its contract.
-use Rattle.std.proofs.Common.{rules, arith}
+use Rattle.std.proofs.Common.{rules}
 use Rattle.runs.specs.Inside.Falls.{spaced}
 use Rattle.runs.proofs.orders.is_spaced.Goals as goal
 use Rattle.runs.proofs.orders.is_spaced.Goals.{then-offset-eq0, else-offset-eq0}

@@ -1,5 +1,5 @@
 -- `runs::rotate::turned` meets its contract.
-use Rattle.std.proofs.Common.{◌≡◌, ◌≤◌, ◌<◌, ◌%◌, arith, rules}
+use Rattle.std.proofs.Common.{◌≡◌, ◌≤◌, ◌<◌, ◌%◌, arith}
 use Rattle.runs.proofs.Laws.Cursor.{rotate_is}
 use Rattle.runs.proofs.rotate.turned.Goals as goal
 use Rattle.runs.proofs.rotate.turned.Goals.{then-list-eq0, else-list-eq0}

@@ -1,5 +1,5 @@
 -- `runs::blocks::Blocks::color_at` meets its contract.
-use Rattle.std.proofs.Common.{◌≤◌, ◌<◌, ◌+◌, length, get_or, drop, sym, ap, ◌∙◌, ℕ, arith}
+use Rattle.std.proofs.Common.{◌≤◌, ◌<◌, ◌+◌, get_or, drop, sym, ap, ◌∙◌, ℕ, arith}
 use Rattle.runs.specs.Words.{offset, coordinate}
 use Rattle.runs.specs.Colours.{colour_from}
 use Rattle.runs.specs.Inside.Blocks.{runs_of}

@@ -1,8 +1,7 @@
 -- `runs::turned::Turned::next` meets its contract.
-use Rattle.std.proofs.Common.{◌≡◌, ◌+◌, ◌<◌, length, sym, ap, ◌∙◌, arith, rules}
+use Rattle.std.proofs.Common.{◌≡◌, ◌+◌, ◌<◌, length, ap, ◌∙◌, arith}
 use Rattle.base.proofs.Bools.{via}
 use Rattle.runs.specs.Inside.Oriented.{list_of}
-use Rattle.runs.specs.Inside.Turned.{ahead}
 use Rattle.runs.proofs.Laws.Reverse.{oriented_long, oriented_steady}
 use Rattle.runs.proofs.Laws.Cursor.{gave, passed_none, passed_same, none_ahead}
 use Rattle.runs.proofs.turned.TurnedIterator.next.Goals as goal
@@ -40,6 +39,7 @@ returns-clause-steps c =
     let turn = c.args.self.now.turn in
     let list = turn.list in
     let s = oriented_steady list.reversed list.n list.runs.now list.taken.small list.taken.list in
-    let long : length (list_of list) ≡ length list.runs.now = oriented_long list.reversed list.n list.runs.now in
-    (c.loop-step.invariant ∙ none_ahead list.n turn.pivot (list_of list) c.loop-step.step c.args.self.now.colour s turn.within (omega arith),
-    none_ahead list.n turn.pivot (list_of list) _ c.args.self.now.colour s turn.within (omega arith))
+    let long : length (list_of list) ≡ length list.runs.now = oriented_long list.reversed list.n list.runs.now in (
+      c.loop-step.invariant ∙ none_ahead list.n turn.pivot (list_of list) c.loop-step.step c.args.self.now.colour s turn.within (omega arith),
+      none_ahead list.n turn.pivot (list_of list) _ c.args.self.now.colour s turn.within (omega arith),
+    )

@@ -1,5 +1,5 @@
 -- `runs::turned::Turned::next` meets its contract.
-use Rattle.std.proofs.Common.{◌≡◌, ◌+◌, length}
+use Rattle.std.proofs.Common.{◌≡◌}
 use Rattle.runs.specs.Inside.Oriented.{list_of}
 use Rattle.runs.specs.Inside.Cursor.{runs_from_step}
 use Rattle.runs.specs.Inside.Turned.{ahead}
