@@ -24,10 +24,14 @@ use Rattle.codec.specs.Prefix.{prefix_of, ReadLeb, whole, cut, bad, read_prefix,
 use Rattle.codec.proofs.Laws.Prefix.{prefix_read, prefix_behind}
 use Rattle.codec.proofs.Laws.Records.{prefix_only}
 use Rattle.runs.specs.Words.{AreWords}
-use Rattle.runs.specs.Bytes.{le_bytes, le_value, run_bytes, words, ReadRuns, found, short, after_count, read_runs, write_runs, given_in, read_runs_into, sharp_colour_in}
+use Rattle.runs.specs.Bytes.{le_bytes, le_value, run_bytes, words, ReadRuns, found, short, after_count, read_runs, write_runs, given_in, read_runs_into, write_rotated, sharp_colour_in}
+use Rattle.runs.specs.Orders.{most_vertices, steady}
+use Rattle.runs.specs.Rotate.{rotate_runs}
 use Rattle.runs.specs.Inside.Blocks.{IsRead}
 use Rattle.std.proofs.lemmas.List.{length_push, get_or_default}
 use Rattle.runs.proofs.Laws.Lists.{Filled}
+use Rattle.runs.proofs.Laws.Orders.{taken}
+use Rattle.runs.proofs.Laws.Answers.{rotated_written}
 
 pub length_le : (k w : ℕ) → length (le_bytes k w) ≡ k
 unfolding le_bytes
@@ -382,3 +386,8 @@ module _ (bytes : List ℕ) where
 
     pub count_found : 8 * k ≤ length bytes - len → read_runs bytes ≡ found (words k (drop len bytes)) (drop (8 * k) (drop len bytes))
     count_found h = count_behind.0 ∙ after_found k (drop len bytes) (omega (arith, length-drop len bytes))
+
+-- ---- the turned cycle as bytes, by the two tests of its list
+
+pub write_turned_lem : (ws : List ℕ) (n pivot : ℕ) (r : Bool) (out : List ℕ) → n ≤ most_vertices → steady n ws ≡ true → write_runs (rotate_runs n pivot r ws) out ≡ write_rotated ws n pivot r out
+write_turned_lem ws n pivot r out h s = rotated_written ws n pivot r out (taken n ws h s)
