@@ -6,6 +6,7 @@ pub mod Codes
 pub mod Tables
 pub mod Windows
 pub mod Places
+pub mod Items
 pub mod Prefix
 pub mod Varints
 pub mod Ascending

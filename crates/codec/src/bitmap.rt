@@ -91,6 +91,7 @@ pub(crate) fn count_map(bytes: &[u8], at: usize, n: u32) -> usize
 {
     let mut count: usize = 0;
     let mut base: u32 = 0;
+    // By hand: a `for` over `(0..n).step_by(32)`, or over the chunks' numbers, takes two instructions more a chunk.
     while base < n {
         let width = chunk_width(base, n);
         let word = crate::bits::bits_at(bytes, at + base as usize, width as usize);
@@ -126,6 +127,7 @@ pub(crate) fn fill_map(bytes: &[u8], at: usize, n: u32, out: &mut [u32])
 {
     let mut k: usize = 0;
     let mut base: u32 = 0;
+    // By hand, as in `count_map`.
     while base < n {
         let width = chunk_width(base, n);
         let word = crate::bits::bits_at(bytes, at + base as usize, width as usize);

@@ -1,38 +1,16 @@
 // Bits of a byte slice, lowest first, and a writer of bits.
-ghost use Rattle.std.specs.Prelude.{◌≡◌, false, ◌++◌, ◌+◌, ◌-◌, ◌*◌, ◌/◌, ◌<◌, ◌≤◌, ◌^◌, length, get_or, take, drop};
+ghost use Rattle.std.specs.Prelude.{◌≡◌, ◌++◌, ◌+◌, ◌-◌, ◌*◌, ◌<◌, ◌≤◌, ◌^◌, length, slice_get, take, drop};
 ghost use Rattle.base.specs.Parts.{over};
-ghost use Rattle.codec.specs.Bits.{bits_of, digit, value_of, low_bits, pack_bits};
+ghost use Rattle.codec.specs.Bits.{bits_of, value_of, low_bits, pack_bits};
 ghost use Rattle.codec.specs.Inside.Windows.{Window};
 ghost use Rattle.codec.specs.Inside.Writers.{stream_of, Ready, Wrote};
 
-// A byte as a wide number.
-pub(crate) fn wide(x: u8) -> u64
-    ensures { (result ≡ x) × (result < 256) }
+// Bit `at` of the slice, if it has one.
+pub(crate) fn bit_at(bytes: &[u8], at: usize) -> Option<bool>
+    ensures { result ≡ slice_get (bits_of bytes.now) at }
 {
-    x as u64
-}
-
-// Bit `at` of the slice.
-pub(crate) fn bit_at(bytes: &[u8], at: usize) -> u8
-    requires { at / 8 < length bytes.now }
-    ensures { result ≡ digit (get_or (bits_of bytes.now) at false) }
-{
-    (bytes[at / 8] >> (at % 8)) % 2
-}
-
-// The number whose low bits are the `b` bits from `at`, bit by bit.
-pub(crate) fn low_value(bytes: &[u8], at: usize, b: usize) -> u64
-    requires b_bound { (at + b ≤ 8 * length bytes.now) × (b ≤ 32) }
-    requires bytes_len_bound { length bytes.now < 2 ^ 60 }
-    ensures { result ≡ value_of (take b (drop at (bits_of bytes.now))) }
-{
-    let mut value: u64 = 0;
-    let mut i: usize = 0;
-    while i < b {
-        value += (bit_at(bytes, at + i) as u64) << i;
-        i += 1;
-    }
-    value
+    let byte = *bytes.get(at / 8)?;
+    Some((byte >> (at % 8)) % 2 == 1)
 }
 
 // The eight bytes from `k`, lowest first, as one number.
@@ -40,15 +18,16 @@ pub(crate) fn word_at(bytes: &[u8], k: usize) -> u64
     requires { k + 8 ≤ length bytes.now }
     ensures { bits_of (drop k bytes.now) ≡ low_bits 64 result ++ bits_of (drop (k + 8) bytes.now) }
 {
-    let b0 = wide(bytes[k]);
-    let b1 = wide(bytes[k + 1]);
-    let b2 = wide(bytes[k + 2]);
-    let b3 = wide(bytes[k + 3]);
-    let b4 = wide(bytes[k + 4]);
-    let b5 = wide(bytes[k + 5]);
-    let b6 = wide(bytes[k + 6]);
-    let b7 = wide(bytes[k + 7]);
-    b0 + 256 * (b1 + 256 * (b2 + 256 * (b3 + 256 * (b4 + 256 * (b5 + 256 * (b6 + 256 * b7))))))
+    u64::from_le_bytes([
+        bytes[k],
+        bytes[k + 1],
+        bytes[k + 2],
+        bytes[k + 3],
+        bytes[k + 4],
+        bytes[k + 5],
+        bytes[k + 6],
+        bytes[k + 7],
+    ])
 }
 
 // The bytes from `k` to the end, fewer than eight, lowest first, as one number.
@@ -57,10 +36,8 @@ fn tail_at(bytes: &[u8], k: usize) -> u64
     ensures { (bits_of (drop k bytes.now) ≡ low_bits (8 * (length bytes.now - k)) result) × (result < 2 ^ (8 * (length bytes.now - k))) }
 {
     let mut value: u64 = 0;
-    let mut i = bytes.len();
-    while k < i {
-        i -= 1;
-        value = wide(bytes[i]) + 256 * value;
+    for i in (k..bytes.len()).rev() {
+        value = u64::from(bytes[i]) + 256 * value;
     }
     value
 }
@@ -79,22 +56,12 @@ pub(crate) fn window_at(bytes: &[u8], k: usize) -> u64
     tail_at(bytes, k)
 }
 
-// Where the last eight of `len` bytes begin; 0 where there are fewer.
-pub(crate) fn last_start(len: usize) -> usize
-    ensures { result ≡ len - 8 }
-{
-    if len < 8 {
-        return 0;
-    }
-    len - 8
-}
-
 // The last eight bytes, or all where there are fewer, as one number.
 pub(crate) fn last_word(bytes: &[u8]) -> u64
     requires { length bytes.now < 2 ^ 60 }
     ensures { Window bytes.now (length bytes.now - 8) result }
 {
-    window_at(bytes, last_start(bytes.len()))
+    window_at(bytes, bytes.len().saturating_sub(8))
 }
 
 // The number whose low bits are the `b` bits from `at`.

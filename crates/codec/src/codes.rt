@@ -26,7 +26,7 @@ pub(crate) fn low_at(bytes: &[u8], at: usize, b: usize) -> Option<ReadCode>
     if bytes.len() * 8 - at < b {
         return None;
     }
-    let low = crate::bits::low_value(bytes, at, b);
+    let low = crate::bits::bits_at(bytes, at, b);
     Some(ReadCode {
         value: (low + (1u64 << b) - 1) as u32,
         next: at + b,
@@ -41,13 +41,11 @@ pub(crate) fn read_gamma(bytes: &[u8], at: usize) -> Option<ReadCode>
 {
     let mut place = at;
     let zeros = loop {
-        if bytes.len() <= place / 8 {
-            break None;
+        match crate::bits::bit_at(bytes, place) {
+            None => break None,
+            Some(true) => break Some(place - at),
+            Some(false) => place += 1,
         }
-        if crate::bits::bit_at(bytes, place) != 0 {
-            break Some(place - at);
-        }
-        place += 1;
     };
     let n = zeros?;
     low_at(bytes, at + n + 1, n)
@@ -108,7 +106,7 @@ pub(crate) fn last_delta(bytes: &[u8], last: u64, at: usize) -> Option<ReadCode>
     if end <= at {
         return delta_at(bytes, at);
     }
-    let past = at - 8 * crate::bits::last_start(bytes.len());
+    let past = at - 8 * bytes.len().saturating_sub(8);
     let Some(Coded { value, count }) = delta_of(last >> past) else {
         return delta_at(bytes, at);
     };

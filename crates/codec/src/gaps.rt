@@ -198,8 +198,7 @@ pub(crate) fn read_gaps(
     let last = crate::bits::last_word(bytes);
     let mut place = at;
     let mut from: u32 = 0;
-    let mut i: usize = 0;
-    while i < n {
+    for i in 0..n {
         let ReadCode { value, next } = crate::codes::next_delta(bytes, last, place)?;
         if top - from <= value {
             return None;
@@ -208,7 +207,6 @@ pub(crate) fn read_gaps(
         put_id(room, i, id);
         from = id + 1;
         place = next;
-        i += 1;
     }
     Some(place)
 }
@@ -218,11 +216,7 @@ pub(crate) fn copy_ids(room: &[u32], n: usize, out: &mut [u32])
     requires { (n ≤ length room.now) × (n ≤ length out.old) }
     ensures { out.new ≡ over (take n room.now) out.old }
 {
-    let mut i: usize = 0;
-    while i < n {
-        out[i] = room[i];
-        i += 1;
-    }
+    out[..n].copy_from_slice(&room[..n]);
 }
 
 // The `n` ids that are coded from `at` on, to the front of `out`: from `room`, where all of them were
@@ -244,10 +238,8 @@ pub(crate) fn fill_numbers(from: u32, to: u32, out: &mut [u32], k: usize) -> usi
     requires { (from ≤ to) × (k + (to - from) ≤ length out.old) }
     ensures { (result ≡ k + (to - from)) × (out.new ≡ over (take k out.old ++ numbers from (to - from)) out.old) }
 {
-    let mut id = from;
-    while id < to {
+    for id in from..to {
         out[k + (id - from) as usize] = id;
-        id += 1;
     }
     k + (to - from) as usize
 }
@@ -259,12 +251,9 @@ pub(crate) fn fill_outside(others: &[u32], top: u32, out: &mut [u32])
 {
     let mut from: u32 = 0;
     let mut k: usize = 0;
-    let mut i: usize = 0;
-    while i < others.len() {
-        let id = others[i];
+    for &id in others {
         k = fill_numbers(from, id, out, k);
         from = id + 1;
-        i += 1;
     }
     fill_numbers(from, top, out, k);
 }
@@ -301,8 +290,7 @@ pub(crate) fn fill_uncoded(bytes: &[u8], at: usize, n: usize, top: u32, out: &mu
     let mut place = at;
     let mut from: u32 = 0;
     let mut k: usize = 0;
-    let mut i: usize = 0;
-    while i < n {
+    for _ in 0..n {
         let Some(ReadCode { value, next }) = crate::codes::next_delta(bytes, last, place) else {
             return;
         };
@@ -310,7 +298,6 @@ pub(crate) fn fill_uncoded(bytes: &[u8], at: usize, n: usize, top: u32, out: &mu
         k = fill_numbers(from, id, out, k);
         from = id + 1;
         place = next;
-        i += 1;
     }
     fill_numbers(from, top, out, k);
 }

@@ -27,10 +27,8 @@ fn next_record(bytes: &[u8], at: usize) -> Result<usize, Refusal>
     requires { at ≤ length bytes.now }
     ensures { SteppedAt bytes.now at result }
 {
-    if bytes.len() <= at {
-        return Err(Refusal::Cut);
-    }
-    let size = crate::bits::wide(bytes[at]) as usize;
+    let first = *bytes.get(at).ok_or(Refusal::Cut)?;
+    let size = usize::from(first);
     if 128 <= size {
         return long_record(bytes, at);
     }
@@ -45,10 +43,8 @@ fn check_records(bytes: &[u8], count: usize) -> Result<(), Refusal>
     ensures { of_made result ≡ outcome (index_of count bytes.now) }
 {
     let mut at: usize = 0;
-    let mut left = count;
-    while 0 < left {
+    for _ in 0..count {
         at = next_record(bytes, at)?;
-        left -= 1;
     }
     Ok(())
 }
@@ -60,15 +56,13 @@ fn fill_index(bytes: &[u8], count: usize, out: &mut [u64])
     ensures { out.new ≡ over (entries_in (index_of count bytes.now)) out.old }
 {
     let mut at: usize = 0;
-    let mut i: usize = 0;
-    while i < count {
+    for i in 0..count {
         out[i] = at as u64;
         let Ok(next) = next_record(bytes, at) else {
             // No record is missing, so this place is never reached.
             return;
         };
         at = next;
-        i += 1;
     }
     out[count] = at as u64;
 }

@@ -19,19 +19,13 @@ fn last_group(low: u64, b: u64, i: usize) -> Result<Prefix, Refusal>
     requires { (low < 2 ^ (7 * i)) × (b < 128) × (i < 5) }
     ensures { of_prefix result ≡ last_of low b i }
 {
-    let v = low + (b << (7 * i));
-    if 4294967295 < v {
+    if b == 0 && 0 < i {
         return Err(Refusal::Damaged);
     }
-    if b == 0 {
-        if 0 < i {
-            return Err(Refusal::Damaged);
-        }
-    }
-    Ok(Prefix {
-        value: v as u32,
-        len: i + 1,
-    })
+    let Ok(value) = u32::try_from(low + (b << (7 * i))) else {
+        return Err(Refusal::Damaged);
+    };
+    Ok(Prefix { value, len: i + 1 })
 }
 
 // The length prefix at the front of the bytes.
@@ -39,17 +33,13 @@ pub fn read_varint_len(bytes: &[u8]) -> Result<Prefix, Refusal>
     ensures { of_prefix result ≡ prefix_in (length bytes.now) (read_prefix bytes.now) }
 {
     let mut value: u64 = 0;
-    let mut i: usize = 0;
-    while i < 5 {
-        if bytes.len() <= i {
-            return Err(Refusal::Cut);
+    for i in 0..5 {
+        let byte = *bytes.get(i).ok_or(Refusal::Cut)?;
+        let group = u64::from(byte);
+        if group < 128 {
+            return last_group(value, group, i);
         }
-        let b = crate::bits::wide(bytes[i]);
-        if b < 128 {
-            return last_group(value, b, i);
-        }
-        value = value + ((b - 128) << (7 * i));
-        i += 1;
+        value += (group - 128) << (7 * i);
     }
     Err(Refusal::Damaged)
 }
@@ -58,19 +48,13 @@ pub fn read_varint_len(bytes: &[u8]) -> Result<Prefix, Refusal>
 pub fn varint_len(n: u32) -> usize
     ensures { (result ≡ length (prefix_of n)) × (result ≤ 5) }
 {
-    if n < 128 {
-        return 1;
+    match n {
+        ..128 => 1,
+        ..16_384 => 2,
+        ..2_097_152 => 3,
+        ..268_435_456 => 4,
+        _ => 5,
     }
-    if n < 16384 {
-        return 2;
-    }
-    if n < 2097152 {
-        return 3;
-    }
-    if n < 268435456 {
-        return 4;
-    }
-    5
 }
 
 // The prefix of `n` to the front of `out`, where it fits.
@@ -78,30 +62,15 @@ pub(crate) fn fill_varint(n: u32, out: &mut [u8])
     requires { length (prefix_of n) ≤ length out.old }
     ensures { out.new ≡ over (prefix_of n) out.old }
 {
-    if n < 128 {
-        out[0] = n as u8;
-        return;
+    let mut rest = n;
+    for group in out.iter_mut() {
+        if rest < 128 {
+            *group = rest as u8;
+            return;
+        }
+        *group = (rest % 128 + 128) as u8;
+        rest /= 128;
     }
-    out[0] = (n % 128 + 128) as u8;
-    let a = n / 128;
-    if a < 128 {
-        out[1] = a as u8;
-        return;
-    }
-    out[1] = (a % 128 + 128) as u8;
-    let b = a / 128;
-    if b < 128 {
-        out[2] = b as u8;
-        return;
-    }
-    out[2] = (b % 128 + 128) as u8;
-    let c = b / 128;
-    if c < 128 {
-        out[3] = c as u8;
-        return;
-    }
-    out[3] = (c % 128 + 128) as u8;
-    out[4] = (c / 128) as u8;
 }
 
 // The prefix of `n` to the front of `out`.

@@ -131,20 +131,15 @@ fn check_map(n: u32, payload: &[u8], count: usize, at: usize) -> Option<usize>
     if payload.len() * 8 - at < n as usize {
         return None;
     }
-    if crate::bitmap::count_map(payload, at, n) != count {
-        return None;
-    }
-    Some(at + n as usize)
+    (crate::bitmap::count_map(payload, at, n) == count).then_some(at + n as usize)
 }
 
 fn check_absent(n: u32, payload: &[u8], count: usize, at: usize, room: &mut [u32]) -> Option<usize>
     requires { (length payload.now < 2 ^ 60) × (at ≤ 8 * length payload.now) × (n ≤ 2 ^ 20) }
     ensures { IdsAt (read_body dense n count) payload.now at result × KeptBy dense n count (drop at (bits_of payload.now)) room.new }
 {
-    if (n as usize) < count {
-        return None;
-    }
-    crate::gaps::read_gaps(payload, at, n as usize - count, n, room)
+    let absent = (n as usize).checked_sub(count)?;
+    crate::gaps::read_gaps(payload, at, absent, n, room)
 }
 
 // Whether fewer than eight bits are left from `at` on, all zero.
@@ -153,10 +148,7 @@ pub(crate) fn is_padding(payload: &[u8], at: usize) -> bool
     ensures { result ≡ (ltb (length (drop at (bits_of payload.now))) 8 && padding (drop at (bits_of payload.now))) }
 {
     let left = payload.len() * 8 - at;
-    if 8 <= left {
-        return false;
-    }
-    crate::bits::bits_at(payload, at, left) == 0
+    left < 8 && crate::bits::bits_at(payload, at, left) == 0
 }
 
 // What set a payload is that of, if of any. The ids coded as distances are kept in `room`, if they fit.
@@ -166,13 +158,10 @@ pub(crate) fn check_set(n: u32, payload: &[u8], room: &mut [u32]) -> Option<Payl
 {
     let ReadCode { value, next } = crate::reader::first_delta(payload)?;
     let behind = check_body(n, payload, value as usize, next, room)?;
-    if is_padding(payload, behind) {
-        return Some(Payload {
-            count: value as usize,
-            at: next,
-        });
-    }
-    None
+    is_padding(payload, behind).then_some(Payload {
+        count: value as usize,
+        at: next,
+    })
 }
 
 // The ids of a payload to the front of `out`, by `room` where it has them.

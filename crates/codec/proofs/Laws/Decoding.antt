@@ -1,22 +1,25 @@
 -- Laws of what is found in a payload: the ids by each regime, the padding, the set.
-use Prim.Native.Nat.{ℕ, ◌-◌, ◌*◌, ◌/◌, ◌^◌, ◌≤◌, ◌<◌}
+use Prim.Native.Nat.{ℕ, ◌+◌, ◌-◌, ◌*◌, ◌/◌, ◌^◌, ◌≤◌, ◌<◌}
 use mathlib.Core.Path.{◌≡◌, refl, sym, ap, ap₂, ◌∙◌, subst}
 use mathlib.Core.Bool.{Bool, true, false, cond, ◌&&◌}
 use mathlib.Core.List.{List, [], ◌∷◌}
 use native.Mathlib.Decide.{dec_lt}
 use native.Mathlib.Omega.{arith}
-use lib.ListN.{length, take, drop}
+use lib.ListN.{length, take, drop, length-drop}
+use lib.Seq.{drop-drop}
+use Rattle.std.specs.Bool.{then_some}
 use lib.Dec.{leb, ltb, eqb}
-use borrow.Author.Tests.{lt-ltb, le-ltb, le-leb, lt-leb, eq-eqb, ne_eqb, leb-true}
+use borrow.Author.Tests.{lt-ltb, le-ltb, le-leb, lt-leb, eq-eqb, ne_eqb, leb-true, eqb-true, eqb-false}
 use Rattle.base.specs.Parts.{over}
 use Rattle.base.proofs.Bools.{and_both, and_left_no, and_right_no}
 use Rattle.codec.specs.Bits.{value_of, bits_of}
 use Rattle.codec.specs.Codes.{Read, got, end, read_delta}
 use Rattle.codec.specs.Sets.{ids_of, absent, Regime, sparse, bitmap, dense, regime, given, none, and_ids, read_gaps, read_map, read_body, read_set, padding, set, no_set, padded, decode_set}
 use Rattle.codec.specs.Inside.Gaps.{IdsAt}
-use Rattle.codec.specs.Inside.Payloads.{regime_of, PayloadOf, KeptBy, set_ids}
+use Rattle.codec.specs.Inside.Payloads.{regime_of, PayloadOf, KeptBy, KeptOf, set_ids}
 use Rattle.std.specs.Prelude.{Option, Some, None}
 use Rattle.codec.specs.declared.sets.Kind.{Kind}
+use Rattle.codec.proofs.Laws.Low.{length_bits}
 use Rattle.codec.proofs.Laws.Sets.{cond_ids, left_ids, regime_some, body_only, padded_set}
 
 -- ---- by each regime
@@ -41,6 +44,18 @@ module _ (N len : ℕ) (bits : List Bool) where
   map_told xs rest e =
       let a = cond_ids _ _ xs rest e in
       (leb-true N (length bits) (Rattle.base.proofs.Bools.and_true _ _ a.0).0, cc)
+
+-- by what the test says
+pub map_tested : (N len : ℕ) (bytes : List ℕ) (at count : ℕ) → N ≤ 8 * length bytes - at → at ≤ 8 * length bytes → count ≡ length (ids_of 0 (take N (drop at (bits_of bytes))))
+    → IdsAt (read_map N len) bytes at (then_some (eqb count len) (at + N))
+map_tested N len bytes at count h l e = go (eqb count len) refl
+  where
+    bits : List Bool
+    bits = drop at (bits_of bytes)
+
+    go : (t : Bool) → eqb count len ≡ t → IdsAt (read_map N len) bytes at (then_some t (at + N))
+    go true q = ((ids_of 0 (take N bits), map_given N len bits (simp length-drop (omega (arith, length_bits bytes))) (sym e ∙ eqb-true count len q) ∙ ap (given (ids_of 0 (take N bits))) (drop-drop N at (bits_of bytes))), omega arith)
+    go false q = map_other N len bits (λ z. eqb-false count len q (e ∙ z))
 
 pub dense_few : (N len : ℕ) (bits : List Bool) → N < len → read_body dense N len bits ≡ none
 dense_few N len bits h = rw (lt-leb len N h)
@@ -115,6 +130,13 @@ module _ (N : ℕ) (payload : List ℕ) (len : ℕ) (rest : List Bool) (e : read
 
     pub body_count : len ≡ length xs
     body_count = sym (body_only (regime N len) N len rest xs left refl b).count
+
+-- by what the test of the padding says
+pub payload_tested : (N : ℕ) (payload : List ℕ) (len at : ℕ) (xs : List ℕ) (left : List Bool) (room : List ℕ) (t : Bool) → read_delta (bits_of payload) ≡ got len (drop at (bits_of payload)) → at ≤ 8 * length payload
+    → read_body (regime N len) N len (drop at (bits_of payload)) ≡ given xs left → KeptBy (regime N len) N len (drop at (bits_of payload)) room → t ≡ (ltb (length left) 8 && padding left)
+    → PayloadOf N payload (then_some t (record { count = len; at = at })) × KeptOf N payload (then_some t (record { count = len; at = at })) room
+payload_tested N payload len at xs left room true e l b kept p = (((xs, padded_body N payload len _ e xs left b true p, body_count N payload len _ e xs left b), e, l), kept)
+payload_tested N payload len at xs left room false e l b kept p = (padded_body N payload len _ e xs left b false p, tt)
 
 -- what a payload's number and place tell of its ids
 module _ (N : ℕ) (payload : List ℕ) (count at : ℕ) (p : PayloadOf N payload (Some (record { count = count; at = at }))) where

@@ -110,26 +110,26 @@ module _ (bytes : List ℕ) (count : ℕ) where
     pub inside : at ≤ length bytes
     pub same : outcome (index_of count bytes) ≡ outcome (index_from left at (drop at bytes))
 
-  pub checking_none : Checking 0 count
+  pub checking_none : Checking 0 (count - 0)
   unfolding index_of
-  checking_none = record { inside = omega arith; same = refl }
+  checking_none = let z : count ≡ count - 0 = omega arith in record { inside = omega arith; same = ap (λ (k : ℕ). outcome (index_from k 0 bytes)) z }
 
-  module _ (at left : ℕ) (some : 0 < left) (c : Checking at left) where
-    one_less : left ≡ suc (left - 1)
+  module _ (at i : ℕ) (some : i < count) (c : Checking at (count - i)) where
+    one_less : count - i ≡ suc (count - (i + 1))
     one_less = omega arith
 
-    pub checking_more : (next : ℕ) → SteppedAt bytes at (Ok next) → Checking next (left - 1)
+    pub checking_more : (next : ℕ) → SteppedAt bytes at (Ok next) → Checking next (count - (i + 1))
     checking_more next s = record {
       inside = s.1;
-      same = c.same ∙ ap (λ (k : ℕ). outcome (index_from k at (drop at bytes))) one_less ∙ ap outcome (s.0 (left - 1)) ∙ outcome_entry at (index_from (left - 1) next (drop next bytes));
+      same = c.same ∙ ap (λ (k : ℕ). outcome (index_from k at (drop at bytes))) one_less ∙ ap outcome (s.0 (count - (i + 1))) ∙ outcome_entry at (index_from (count - (i + 1)) next (drop next bytes));
     }
 
     pub checking_stop : (x : Refusal) → SteppedAt bytes at (Err x) → refused (number_of x) ≡ outcome (index_of count bytes)
-    checking_stop x s = sym (c.same ∙ ap (λ (k : ℕ). outcome (index_from k at (drop at bytes))) one_less ∙ ap outcome (s (left - 1)))
+    checking_stop x s = sym (c.same ∙ ap (λ (k : ℕ). outcome (index_from k at (drop at bytes))) one_less ∙ ap outcome (s (count - (i + 1))))
 
-  pub checking_end : (at left : ℕ) → left ≡ 0 → Checking at left → done [] ≡ outcome (index_of count bytes)
+  pub checking_end : (at i : ℕ) → count ≤ i → Checking at (count - i) → done [] ≡ outcome (index_of count bytes)
   unfolding index_from
-  checking_end at left z c = sym (c.same ∙ ap (λ (k : ℕ). outcome (index_from k at (drop at bytes))) z)
+  checking_end at i all c = let z : count - i ≡ 0 = omega arith in sym (c.same ∙ ap (λ (k : ℕ). outcome (index_from k at (drop at bytes))) z)
 
   -- the entries of i records stand in the front of `out`, and what was behind them is as it was
   pub record Filling (old out : List ℕ) (at i : ℕ) : Type 0 where

@@ -1,5 +1,5 @@
 -- Laws of low bits and packed bytes, for every width.
-use Prim.Native.Nat.{ℕ, zero, suc, ◌+◌, ◌-◌, ◌*◌, ◌/◌, ◌%◌, ◌^◌, ◌<◌}
+use Prim.Native.Nat.{ℕ, zero, suc, ◌+◌, ◌-◌, ◌*◌, ◌/◌, ◌%◌, ◌^◌, ◌≤◌, ◌<◌}
 use mathlib.Core.Path.{◌≡◌, refl, sym, ap, ap₂, ◌∙◌}
 use mathlib.Core.Bool.{Bool, true, false}
 use mathlib.Core.List.{List, [], ◌∷◌, ◌++◌}
@@ -11,6 +11,9 @@ use lib.ListN.{length, take, drop, get_or, length-append, length-take, length-dr
 use lib.Seq.{get_or-append-add, take-suc, get_or-drop, length-take-le}
 use lib.Pow.{pow_pos, pow_mono, pow-lt}
 use lib.Arith.{mod-mul}
+use lib.Dec.{eqb}
+use Rattle.std.specs.Prelude.{Option, Some, None, slice_get}
+use Rattle.std.proofs.lemmas.Option.{slice_get-get_or, slice_get_past, slice_get_within, get_or_from_slice_get}
 use Rattle.codec.specs.Bits.{is_one, digit, low_bits, value_of, bits_of}
 
 pub length_low : (k n : ℕ) → length (low_bits k n) ≡ k
@@ -135,3 +138,29 @@ digit_zero true e = absurd (omega arith)
 pub digit_one : (b : Bool) → (digit b ≡ 0 → ⊥) → b ≡ true
 digit_one false e = absurd (e refl)
 digit_one true e = refl
+
+-- the bit at a place, if there is one
+pub bit_past : (xs : List ℕ) (at : ℕ) → length xs ≤ at / 8 → slice_get (bits_of xs) at ≡ None
+bit_past xs at h = slice_get_past (bits_of xs) at (rw length_bits (omega arith))
+
+one_or_none : (d : ℕ) → d < 2 → is_one d ≡ eqb d 1
+one_or_none zero h = refl
+one_or_none (suc zero) h = refl
+one_or_none (suc (suc d)) h = absurd (omega arith)
+
+pub bit_there : (xs : List ℕ) (at b : ℕ) → at / 8 < length xs → b ≡ get_or xs (at / 8) 0 → slice_get (bits_of xs) at ≡ Some (eqb (b / 2 ^ (at % 8) % 2) 1)
+bit_there xs at b h e =
+    let inside : at < length (bits_of xs) = rw length_bits (omega arith) in
+    rw e (slice_get-get_or (bits_of xs) at false inside ∙ ap Some (bit_of xs at h ∙ one_or_none (get_or xs (at / 8) 0 / 2 ^ (at % 8) % 2) (omega arith)))
+
+-- a bit that is there, by its place
+pub bit_is : (xs : List ℕ) (at : ℕ) (b : Bool) → Some b ≡ slice_get (bits_of xs) at → (at < 8 * length xs) × (get_or (bits_of xs) at false ≡ b)
+bit_is xs at b e =
+    (rw (← length_bits) (slice_get_within (bits_of xs) at b (sym e)), get_or_from_slice_get (bits_of xs) at b false (sym e))
+
+pub bits_end : (xs : List ℕ) (at : ℕ) → None ≡ slice_get (bits_of xs) at → length (bits_of xs) ≤ at
+bits_end xs at e = go (dec_lt at (length (bits_of xs)))
+  where
+    go : Dec (at < length (bits_of xs)) → length (bits_of xs) ≤ at
+    go (no h) = omega arith
+    go (yes h) = let q = slice_get-get_or (bits_of xs) at false h in let x : ◌≡◌ {A = Option Bool} None (Some (get_or (bits_of xs) at false)) = e ∙ q in absurd cc

@@ -10,7 +10,7 @@ use lib.ListN.{length, take, drop, get_or, replicate, length-drop, take-append-d
 use lib.Seq.{drop-cons, drop_at, take_at, drop-drop, take-append-le, drop-append-le}
 use lib.Count.{count_trailing_zeros, under}
 use lib.Pow.{pow_pos}
-use Rattle.codec.specs.Bits.{low_bits, value_of, bits_of}
+use Rattle.codec.specs.Bits.{low_bits, value_of, bits_of, AreBytes}
 use Rattle.codec.specs.Codes.{high_bit, gamma, delta, got, read_delta}
 use Rattle.codec.specs.Inside.Windows.{Window}
 use Rattle.codec.specs.Inside.Places.{ReadCodeAt}
@@ -80,6 +80,21 @@ byte_more xs k next n v b tail h e d l t =
 pub byte_last : (xs : List ℕ) (k next : ℕ) (b : ℕ) → k < length xs → next ≡ k + 1 → b ≡ get_or xs k 0 → bits_of (drop k xs) ≡ low_bits 8 b ++ bits_of (drop next xs)
 unfolding bits_of
 byte_last xs k next b h e d = let s : next ≡ suc k = e ∙ add-one k in rw (s, drop-cons xs k 0 h, ← d)
+
+-- eight bytes, lowest first, as one number
+pub word_of : (xs : List ℕ) (k r : ℕ) → AreBytes xs → k + 8 ≤ length xs
+    → r ≡ get_or xs k 0 + 256 * (get_or xs (k + 1) 0 + 256 * (get_or xs (k + 2) 0 + 256 * (get_or xs (k + 3) 0 + 256 * (get_or xs (k + 4) 0 + 256 * (get_or xs (k + 5) 0 + 256 * (get_or xs (k + 6) 0 + 256 * get_or xs (k + 7) 0))))))
+    → bits_of (drop k xs) ≡ low_bits 64 r ++ bits_of (drop (k + 8) xs)
+word_of xs k r are h e =
+    rw e
+    (byte_more xs k (k + 1) _ _ _ _ (omega arith) refl refl (are k)
+    (byte_more xs (k + 1) (k + 2) _ _ _ _ (omega arith) (omega arith) refl (are (k + 1))
+    (byte_more xs (k + 2) (k + 3) _ _ _ _ (omega arith) (omega arith) refl (are (k + 2))
+    (byte_more xs (k + 3) (k + 4) _ _ _ _ (omega arith) (omega arith) refl (are (k + 3))
+    (byte_more xs (k + 4) (k + 5) _ _ _ _ (omega arith) (omega arith) refl (are (k + 4))
+    (byte_more xs (k + 5) (k + 6) _ _ _ _ (omega arith) (omega arith) refl (are (k + 5))
+    (byte_more xs (k + 6) (k + 7) _ _ _ _ (omega arith) (omega arith) refl (are (k + 6))
+    (byte_last xs (k + 7) (k + 8) _ (omega arith) (omega arith) refl))))))))
 
 -- the bytes from i on as a number, built from the end
 abbrev pub Tail : List ℕ → ℕ → ℕ → Type 0

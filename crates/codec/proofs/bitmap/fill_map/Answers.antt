@@ -13,6 +13,7 @@ use Rattle.codec.proofs.Laws.Low.{length_bits}
 use Rattle.codec.proofs.Laws.Filled.{over_none, over_more, long_more, same_more}
 use Rattle.codec.proofs.Laws.Chunks.{ids_chunk, chunk_low, ids_part}
 use Rattle.codec.proofs.bitmap.fill_map.Goals as goal
+use Rattle.codec.proofs.bitmap.fill_map.Goals.{After-bits_at-word}
 
 -- what a chunk adds
 record Added (bits : List Bool) (base width word k n room : ℕ) : Type 0 where
@@ -31,29 +32,25 @@ pub loop-base-init : goal.loop-base-init
 unfolding ids_of
 loop-base-init c = (omega arith, refl, refl, sym (over_none c.args.out.now))
 
-pub fill_chunk-k-requires : goal.fill_chunk-k-requires
-fill_chunk-k-requires c =
-    let added : Added (drop c.args.at (bits_of c.args.bytes.now)) c.loop-base.base c.chunk_width-width.result c.bits_at-word.result
-    c.loop-base.k c.args.n (length c.args.out.now) = let bits : List Bool = bits_of c.args.bytes.now in
+-- what a turn adds
+turn : (c : goal.After-bits_at-word)
+    → Added (drop c.args.at (bits_of c.args.bytes.now)) c.loop-base.base c.chunk_width-width.result c.bits_at-word.result c.loop-base.k c.args.n (length c.args.out.now)
+turn c =
+    let bits : List Bool = bits_of c.args.bytes.now in
     add (drop c.args.at bits) c.loop-base.base c.chunk_width-width.result c.bits_at-word.result c.loop-base.k c.args.n (length c.args.out.now)
     (omega arith)
     (simp length-drop (omega (arith, length_bits c.args.bytes.now)))
     (c.bits_at-word.ensures.0 ∙ ap (λ (b : List Bool). value_of (take c.chunk_width-width.result b)) (sym (drop-drop c.loop-base.base c.args.at bits)))
     c.requires.bytes_in_bounds
-    c.loop-base.invariant.2 in
-    record { width_bound = search rules; word_in_bounds = omega (arith, added.fits) }
+    c.loop-base.invariant.2
+
+pub fill_chunk-k-requires : goal.fill_chunk-k-requires
+fill_chunk-k-requires c =
+    record { width_bound = search rules; word_in_bounds = omega (arith, (turn (goal.at.fill_chunk-k-requires c).After-bits_at-word).fits) }
 
 pub loop-base-preserved : goal.loop-base-preserved
 loop-base-preserved c =
-    let added : Added (drop c.args.at (bits_of c.args.bytes.now)) c.loop-base.base c.chunk_width-width.result c.bits_at-word.result
-    c.loop-base.k c.args.n (length c.args.out.now) = let bits : List Bool = bits_of c.args.bytes.now in
-    add (drop c.args.at bits) c.loop-base.base c.chunk_width-width.result c.bits_at-word.result c.loop-base.k c.args.n (length c.args.out.now)
-    (omega arith)
-    (simp length-drop (omega (arith, length_bits c.args.bytes.now)))
-    (c.bits_at-word.ensures.0 ∙ ap (λ (b : List Bool). value_of (take c.chunk_width-width.result b)) (sym (drop-drop c.loop-base.base c.args.at bits)))
-    c.requires.bytes_in_bounds
-    c.loop-base.invariant.2 in
-    let a = added in
+    let a = turn (goal.at.loop-base-preserved c).After-bits_at-word in
     let old : List ℕ = c.args.out.now in (
       omega arith,
       same_more old c.loop-base.out _ _ _ c.loop-base.k c.loop-base.invariant.2 c.loop-base.invariant.3 c.fill_chunk-k.ensures.1 a.fits,

@@ -1,13 +1,13 @@
-use mathlib.Core.Path.{sym, ap, ◌∙◌}
-use Prim.Native.Nat.{◌/◌, ◌%◌, ◌^◌}
-use native.Mathlib.Omega.{arith}
-use lib.ListN.{get_or}
-use Rattle.codec.specs.Bits.{digit}
-use Rattle.codec.proofs.Laws.Low.{bit_of, digit_is_one}
+-- `bits::bit_at` meets its contract.
+use mathlib.Core.Path.{sym}
+use Rattle.codec.proofs.Laws.Low.{bit_past, bit_there}
+use Rattle.codec.proofs.Laws.Items.{item_there, item_past}
 use Rattle.codec.proofs.bits.bit_at.Goals as goal
+
+pub returns-in_err-byte : goal.returns-in_err-byte
+returns-in_err-byte c = rw c.from_residual.ensures (sym (bit_past _ _ (item_past _ _ _ c.get.ensures.lookup c.in_err-byte.was)))
 
 pub returns : goal.returns
 returns c =
-    let at = c.args.at in
-    let xs = c.args.bytes.now in
-    sym (ap digit (bit_of xs at c.requires) ∙ digit_is_one (get_or xs (at / 8) 0 / 2 ^ (at % 8) % 2) (omega arith))
+    let there = item_there _ _ _ c.get.ensures.lookup _ c.in_ok-byte.was in
+    sym (bit_there c.args.bytes.now c.args.at c.in_ok-byte.field-0.now there.0 there.1)

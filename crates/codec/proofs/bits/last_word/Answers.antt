@@ -6,4 +6,4 @@ use Rattle.codec.proofs.bits.last_word.Goals as goal
 
 pub returns : goal.returns
 returns c =
-    subst (λ (k : ℕ). Window c.args.bytes.now k c.window_at.result) c.last_start.ensures c.window_at.ensures
+    subst (λ (k : ℕ). Window c.args.bytes.now k c.window_at.result) c.saturating_sub.ensures c.window_at.ensures

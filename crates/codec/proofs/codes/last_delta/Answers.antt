@@ -13,7 +13,7 @@ code : (c : goal.In-Some) → CodedIn (c.args.last / 2 ^ (c.args.at - 8 * (lengt
 code c =
     let a = c.args in
     let shown = Some c.in-Some.field-0 in
-    subst (λ (k : ℕ). CodedIn (a.last / 2 ^ (a.at - 8 * k)) shown) c.last_start.ensures c.in-Some.ensures
+    subst (λ (k : ℕ). CodedIn (a.last / 2 ^ (a.at - 8 * k)) shown) c.saturating_sub.ensures c.in-Some.ensures
 
 pub overflow_add-at : goal.overflow_add-at
 overflow_add-at c = omega (arith, (code c).1)
@@ -22,5 +22,5 @@ pub returns : goal.returns
 returns c =
     let code : CodedIn (c.args.last / 2 ^ (c.args.at - 8 * (length c.args.bytes.now - 8))) (Some c.in-Some.field-0) = let a = c.args in
     let shown = Some c.in-Some.field-0 in
-    subst (λ (k : ℕ). CodedIn (a.last / 2 ^ (a.at - 8 * k)) shown) c.last_start.ensures c.in-Some.ensures in
+    subst (λ (k : ℕ). CodedIn (a.last / 2 ^ (a.at - 8 * k)) shown) c.saturating_sub.ensures c.in-Some.ensures in
     window_found c.args.bytes.now (length c.args.bytes.now - 8) c.args.at c.args.last c.requires.window _ _ code (omega arith) (omega arith) (omega arith)

@@ -18,12 +18,12 @@ pub returns-then-bytes-at : goal.returns-then-bytes-at
 returns-then-bytes-at c =
     λ v rest e. end_got (low_end c.args.b (drop c.args.at (bits_of c.args.bytes.now)) (simp (length-drop, length_bits) (omega arith))) e
 
-one_shl : (c : goal.After-low_value-low) → 1 * 2 ^ c.args.b % 2 ^ 64 ≡ 2 ^ c.args.b
+one_shl : (c : goal.After-bits_at-low) → 1 * 2 ^ c.args.b % 2 ^ 64 ≡ 2 ^ c.args.b
 one_shl c = rw one-mul (mod-eq_of_lt (pow-lt {j = 64} (omega arith)))
 
-low_lt : (c : goal.After-low_value-low) → c.low_value-low.result < 2 ^ c.args.b
+low_lt : (c : goal.After-bits_at-low) → c.bits_at-low.result < 2 ^ c.args.b
 low_lt c =
-    rw c.low_value-low.ensures (value_take_lt (bits_of c.args.bytes.now) c.args.at c.args.b)
+    rw c.bits_at-low.ensures.0 (value_take_lt (bits_of c.args.bytes.now) c.args.at c.args.b)
 
 pub overflow_add-result : goal.overflow_add-result
 overflow_add-result c = omega (arith, one_shl c, low_lt c, pow_mono {i = c.args.b} {j = 20} (omega arith))
@@ -40,4 +40,4 @@ returns c =
     let b = c.args.b in
     let bits = bits_of c.args.bytes.now in
     let room : b ≤ length (drop at bits) = simp (length-drop, length_bits) (omega arith) in
-    (rw (low_got b (drop at bits) room, drop-drop b at bits, one_shl c, c.low_value-low.ensures), omega arith)
+    (rw (low_got b (drop at bits) room, drop-drop b at bits, one_shl c, c.bits_at-low.ensures.0), omega arith)

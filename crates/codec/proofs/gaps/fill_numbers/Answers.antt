@@ -1,8 +1,8 @@
 use Prim.Native.Nat.{ℕ, ◌≤◌, ◌-◌, ◌<◌, ◌+◌}
-use mathlib.Core.Path.{◌≡◌, refl, ap, ◌∙◌}
+use mathlib.Core.Path.{◌≡◌, ap, ◌∙◌}
 use mathlib.Core.List.{List, [], ◌++◌, ◌∷◌}
 use native.Mathlib.Omega.{arith}
-use lib.ListN.{length, take, set, length-set}
+use lib.ListN.{length, take, set}
 use Rattle.base.specs.Parts.{over}
 use Rattle.codec.specs.Inside.Gaps.{numbers}
 use Rattle.codec.proofs.Laws.Filled.{over_start, over_next}
@@ -26,15 +26,7 @@ one_more out old k from id l h e =
     ∙ ap (λ (x : List ℕ). over (take k old ++ x) old) (ap (λ (x : ℕ). numbers from m ++ (x ∷ [])) s ∙ numbers_more m from ∙ ap (numbers from) t)
 
 pub loop-id-init : goal.loop-id-init
-loop-id-init c = (omega arith, omega arith, refl, none_yet c.args.out.now c.args.k c.args.from (omega arith))
+loop-id-init c = none_yet c.args.out.now c.args.k c.args.from (omega arith)
 
 pub loop-id-preserved : goal.loop-id-preserved
-loop-id-preserved c =
-    let old : List ℕ = c.args.out.now in
-    (omega arith, omega arith, simp length-set c.loop-id.invariant.2, one_more c.loop-id.out old c.args.k c.args.from c.loop-id.id (omega arith) (omega arith) c.loop-id.invariant.3)
-
-pub returns : goal.returns
-returns c =
-    let old : List ℕ = c.args.out.now in
-    let e : c.loop-id.id ≡ c.args.to = omega arith in
-    (refl, c.loop-id.invariant.3 ∙ ap (λ (k : ℕ). over (take c.args.k old ++ numbers c.args.from (k - c.args.from)) old) e)
+loop-id-preserved c = one_more c.loop-id.out c.args.out.now c.args.k c.args.from c.loop-id.id (omega arith) (omega arith) c.loop-id.invariant

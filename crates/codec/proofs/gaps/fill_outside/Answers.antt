@@ -9,13 +9,13 @@ use Rattle.base.specs.Parts.{over}
 use Rattle.codec.specs.Sets.{Within}
 use Rattle.codec.specs.Inside.Gaps.{absent_from, numbers}
 use Rattle.codec.proofs.Laws.Coded.{head_within}
-use Rattle.codec.proofs.Laws.Filled.{over_none, over_more, long_more, same_more}
+use Rattle.codec.proofs.Laws.Filled.{over_none, over_more, long_more}
 use Rattle.codec.proofs.Laws.Gaps.{within_room, length_numbers, absent_run, absent_end, absent_all}
 use Rattle.codec.proofs.gaps.fill_outside.Goals as goal
 
-pub loop-i-init : goal.loop-i-init
-loop-i-init c =
-    (omega arith, omega arith, refl, refl, c.requires.0, ([], refl, sym (over_none _), absent_all c.args.top c.args.others.now))
+pub loop-id-init : goal.loop-id-init
+loop-id-init c =
+    (omega arith, refl, c.requires.0, ([], refl, sym (over_none _), absent_all c.args.top c.args.others.now))
 
 -- the next of the others: where it lies, and that those behind it leave it room
 record Turn (others : List ℕ) (top from i : ℕ) : Type 0 where
@@ -36,42 +36,40 @@ turn_of others top from i h w =
 
 pub fill_numbers-k-requires : goal.fill_numbers-k-requires
 fill_numbers-k-requires c =
-    let turn : Turn c.args.others.now c.args.top c.loop-i.from c.loop-i.i = turn_of _ _ _ _ c.loop-i-test.true c.loop-i.invariant.4 in
+    let turn : Turn c.args.others.now c.args.top c.loop-id.from c.loop-id.id-index = turn_of _ _ _ _ c.loop-id-test.true c.loop-id.invariant.2 in
     let t = turn in (t.low, omega (arith, t.room, t.low))
 
 pub overflow_add-from : goal.overflow_add-from
 overflow_add-from c =
-    let turn : Turn c.args.others.now c.args.top c.loop-i.from c.loop-i.i = turn_of _ _ _ _ c.loop-i-test.true c.loop-i.invariant.4 in
+    let turn : Turn c.args.others.now c.args.top c.loop-id.from c.loop-id.id-index = turn_of _ _ _ _ c.loop-id-test.true c.loop-id.invariant.2 in
     omega (arith, turn.below)
 
-pub loop-i-preserved : goal.loop-i-preserved
-loop-i-preserved c =
-    let turn : Turn c.args.others.now c.args.top c.loop-i.from c.loop-i.i = turn_of _ _ _ _ c.loop-i-test.true c.loop-i.invariant.4 in
+pub loop-id-preserved : goal.loop-id-preserved
+loop-id-preserved c =
+    let turn : Turn c.args.others.now c.args.top c.loop-id.from c.loop-id.id-index = turn_of _ _ _ _ c.loop-id-test.true c.loop-id.invariant.2 in
     let t = turn in
-    let v = c.loop-i.invariant.5 in
+    let v = c.loop-id.invariant.3 in
     let old : List ℕ = c.args.out.now in
     let others : List ℕ = c.args.others.now in
-    let id : ℕ = get_or others c.loop-i.i 0 in
-    let new : List ℕ = numbers c.loop-i.from (id - c.loop-i.from) in
-    let n : length new ≡ id - c.loop-i.from = length_numbers (id - c.loop-i.from) c.loop-i.from in
-    let next : drop c.loop-i.i others ≡ id ∷ drop (c.loop-i.i + 1) others = drop-cons others c.loop-i.i 0 c.loop-i-test.true ∙ ap (λ (m : ℕ). id ∷ drop m others) (sym (add-one c.loop-i.i)) in (
-      omega arith,
+    let id : ℕ = get_or others c.loop-id.id-index 0 in
+    let new : List ℕ = numbers c.loop-id.from (id - c.loop-id.from) in
+    let n : length new ≡ id - c.loop-id.from = length_numbers (id - c.loop-id.from) c.loop-id.from in
+    let next : drop c.loop-id.id-index others ≡ id ∷ drop (c.loop-id.id-index + 1) others = drop-cons others c.loop-id.id-index 0 c.loop-id-test.true ∙ ap (λ (m : ℕ). id ∷ drop m others) (sym (add-one c.loop-id.id-index)) in (
       omega (arith, t.below),
-      same_more old c.loop-i.out _ v.0 new c.loop-i.k v.1 v.2 c.fill_numbers-k.ensures.1 (omega (arith, n, t.room, t.low)),
       omega (arith, c.fill_numbers-k.ensures.0, t.low),
       t.later,
       (
         v.0 ++ new,
-        long_more old c.loop-i.out _ v.0 new c.loop-i.k v.1 v.2 c.fill_numbers-k.ensures.1 ∙ omega (arith, n, c.fill_numbers-k.ensures.0),
-        over_more old c.loop-i.out _ v.0 new c.loop-i.k v.1 v.2 c.fill_numbers-k.ensures.1,
-        v.3 ∙ ap (λ (y : List ℕ). v.0 ++ absent_from c.loop-i.from (c.args.top - c.loop-i.from) y) next ∙ ap (λ (x : List ℕ). v.0 ++ x) (absent_run c.loop-i.from c.args.top id _ t.low t.below) ∙ sym (append_assoc v.0 new _),
+        long_more old c.loop-id.out _ v.0 new c.loop-id.k v.1 v.2 c.fill_numbers-k.ensures.1 ∙ omega (arith, n, c.fill_numbers-k.ensures.0),
+        over_more old c.loop-id.out _ v.0 new c.loop-id.k v.1 v.2 c.fill_numbers-k.ensures.1,
+        v.3 ∙ ap (λ (y : List ℕ). v.0 ++ absent_from c.loop-id.from (c.args.top - c.loop-id.from) y) next ∙ ap (λ (x : List ℕ). v.0 ++ x) (absent_run c.loop-id.from c.args.top id _ t.low t.below) ∙ sym (append_assoc v.0 new _),
       ),
     )
 
 pub returns : goal.returns
 returns c =
-    let v = c.loop-i.invariant.5 in
-    let e : drop c.loop-i.i c.args.others.now ≡ [] = drop_of_length-le c.args.others.now {i = c.loop-i.i} (omega arith) in
+    let v = c.loop-id.invariant.3 in
+    let e : drop c.loop-id.id-index c.args.others.now ≡ [] = drop_of_length-le c.args.others.now {i = c.loop-id.id-index} (omega arith) in
     let old : List ℕ = c.args.out.now in
-    over_more old c.loop-i.out _ v.0 _ c.loop-i.k v.1 v.2 c.fill_numbers.ensures.1
-    ∙ ap (λ (x : List ℕ). over x old) (sym (v.3 ∙ ap (λ (y : List ℕ). v.0 ++ absent_from c.loop-i.from (c.args.top - c.loop-i.from) y) e ∙ ap (λ (x : List ℕ). v.0 ++ x) (absent_end (c.args.top - c.loop-i.from) c.loop-i.from)))
+    over_more old c.loop-id.out _ v.0 _ c.loop-id.k v.1 v.2 c.fill_numbers.ensures.1
+    ∙ ap (λ (x : List ℕ). over x old) (sym (v.3 ∙ ap (λ (y : List ℕ). v.0 ++ absent_from c.loop-id.from (c.args.top - c.loop-id.from) y) e ∙ ap (λ (x : List ℕ). v.0 ++ x) (absent_end (c.args.top - c.loop-id.from) c.loop-id.from)))

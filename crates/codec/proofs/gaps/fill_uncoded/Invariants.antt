@@ -11,9 +11,6 @@ use Rattle.codec.proofs.Laws.Gaps.{Left}
 use Rattle.codec.proofs.gaps.fill_uncoded.Given as goal
 
 -- the ids left out below `from` are written, and the coded ones from there on are yet to be read
-abbrev pub invariant-loop-i : goal.invariant-loop-i
-invariant-loop-i l = (l.i ≤ l.n) × (l.from ≤ l.top) × (length l.out ≡ length l.initial.out) × (l.k + l.i ≡ l.from)
-    × ((front : List ℕ) × (ys : List ℕ) × (length front ≡ l.k) × (l.out ≡ over front l.initial.out) × (absent l.top (ids_in (read_gaps l.n 0 l.top (drop l.at (bits_of l.bytes)))) ≡ front ++ absent_from l.from (l.top - l.from) ys) × Left l.n l.i l.from l.top (drop l.place (bits_of l.bytes)) ys)
-
-abbrev pub decreases-loop-i : goal.decreases-loop-i
-decreases-loop-i l = l.n - l.i
+abbrev pub invariant-loop : goal.invariant-loop
+invariant-loop l = (l.from ≤ l.top) × (l.k + l.counter ≡ l.from)
+    × ((front : List ℕ) × (ys : List ℕ) × (length front ≡ l.k) × (l.out ≡ over front l.initial.out) × (absent l.top (ids_in (read_gaps l.n 0 l.top (drop l.at (bits_of l.bytes)))) ≡ front ++ absent_from l.from (l.top - l.from) ys) × Left l.n l.counter l.from l.top (drop l.place (bits_of l.bytes)) ys)

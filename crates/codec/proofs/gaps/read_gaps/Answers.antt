@@ -16,30 +16,29 @@ whole n = omega arith
 
 pub loop-i-init : goal.loop-i-init
 loop-i-init c =
-    (omega arith, omega arith, omega arith, refl, ([], refl, put_none c.args.room.now, after_nil _ ∙ ap (λ (k : ℕ). with_ids [] (read_gaps k 0 c.args.top (drop c.args.at (bits_of c.args.bytes.now)))) (whole c.args.n)))
+    (omega arith, omega arith, refl, ([], refl, put_none c.args.room.now, after_nil _ ∙ ap (λ (k : ℕ). with_ids [] (read_gaps k 0 c.args.top (drop c.args.at (bits_of c.args.bytes.now)))) (whole c.args.n)))
 
 pub next_delta-requires : goal.next_delta-requires
 next_delta-requires c = record { bytes_len_bound = search rules; window = c.last_word-last.ensures }
 
 pub returns-in_err-value : goal.returns-in_err-value
 returns-in_err-value c =
-    let e = stuck _ c.loop-i.invariant.4.0 c.args.n c.loop-i.i c.loop-i.from c.args.top _ c.loop-i-test.true c.loop-i.invariant.4.3 (gaps_refused _ _ _ _ c.in_err-value.ensures c.requires.top_bound) in
+    let e = stuck _ c.loop-i.invariant.3.0 c.args.n c.loop-i.i c.loop-i.from c.args.top _ c.loop-i-test.true c.loop-i.invariant.3.3 (gaps_refused _ _ _ _ c.in_err-value.ensures c.requires.top_bound) in
     rw c.from_residual.ensures (e, put_refused _ _ _ e)
 
 pub returns-then-top-from : goal.returns-then-top-from
 returns-then-top-from c =
-    let e = stuck _ c.loop-i.invariant.4.0 c.args.n c.loop-i.i c.loop-i.from c.args.top _ c.loop-i-test.true c.loop-i.invariant.4.3 (gaps_high _ _ _ _ _ _ c.in_ok-value.ensures.0 (omega arith)) in
+    let e = stuck _ c.loop-i.invariant.3.0 c.args.n c.loop-i.i c.loop-i.from c.args.top _ c.loop-i-test.true c.loop-i.invariant.3.3 (gaps_high _ _ _ _ _ _ c.in_ok-value.ensures.0 (omega arith)) in
     (e, put_refused _ _ _ e)
 
 pub loop-i-preserved : goal.loop-i-preserved
 loop-i-preserved c =
-    let v = c.loop-i.invariant.4 in
+    let v = c.loop-i.invariant.3 in
     let id : ℕ = c.loop-i.from + c.in_ok-value.field-0.value in
     let h : id < c.args.top = omega arith in (
       omega arith,
-      omega arith,
       c.in_ok-value.ensures.1,
-      ap length c.put_id.ensures ∙ length-set c.loop-i.room c.loop-i.i id ∙ c.loop-i.invariant.3,
+      ap length c.put_id.ensures ∙ length-set c.loop-i.room c.loop-i.i id ∙ c.loop-i.invariant.2,
       (
         v.0 ++ (id ∷ []),
         length-append v.0 (id ∷ []) ∙ ap (λ (m : ℕ). m + 1) v.1,
@@ -50,6 +49,6 @@ loop-i-preserved c =
 
 pub returns : goal.returns
 returns c =
-    let v = c.loop-i.invariant.4 in
+    let v = c.loop-i.invariant.3 in
     let e = arrived _ v.0 c.args.n c.loop-i.i _ _ _ (omega arith) v.3 in
-    (((v.0, e), c.loop-i.invariant.2), put_given _ v.0 _ c.args.room.now _ e v.2)
+    (((v.0, e), c.loop-i.invariant.1), put_given _ v.0 _ c.args.room.now _ e v.2)

@@ -5,6 +5,7 @@ use mathlib.Core.List.{[], ◌∷◌}
 use Rattle.base.specs.Answers.{done}
 use Rattle.codec.proofs.Laws.Indexing.{Says, part_says, step_up, step_start_lem, step_cut, step_next}
 use Rattle.codec.proofs.index.long_record.Goals as goal
+use Rattle.codec.proofs.index.long_record.Goals.{In_ok-value}
 
 said : (c : goal.In_ok-value)
     → Says c.args.bytes.now c.args.at (done (c.in_ok-value.field-0.value ∷ c.in_ok-value.field-0.len ∷ []))
@@ -24,15 +25,12 @@ overflow_sub-bytes c = omega (arith, step_start_lem _ _ c.requires _ _ (said c))
 
 pub returns-then-bytes-start : goal.returns-then-bytes-start
 returns-then-bytes-start c =
-    let said : Says c.args.bytes.now c.args.at (done (c.in_ok-value.field-0.value ∷ c.in_ok-value.field-0.len ∷ [])) = part_says c.args.bytes.now c.args.at c.in_ok-value.ensures in
-    step_cut _ _ c.requires _ _ said (omega arith)
+    step_cut _ _ c.requires _ _ (said (goal.at.returns-then-bytes-start c).In_ok-value) (omega arith)
 
 pub overflow_add-result : goal.overflow_add-result
 overflow_add-result c =
-    let said : Says c.args.bytes.now c.args.at (done (c.in_ok-value.field-0.value ∷ c.in_ok-value.field-0.len ∷ [])) = part_says c.args.bytes.now c.args.at c.in_ok-value.ensures in
-    omega (arith, step_start_lem _ _ c.requires _ _ said)
+    omega (arith, step_start_lem _ _ c.requires _ _ (said (goal.at.overflow_add-result c).In_ok-value))
 
 pub returns : goal.returns
 returns c =
-    let said : Says c.args.bytes.now c.args.at (done (c.in_ok-value.field-0.value ∷ c.in_ok-value.field-0.len ∷ [])) = part_says c.args.bytes.now c.args.at c.in_ok-value.ensures in
-    step_next _ _ c.requires _ _ said (omega arith)
+    step_next _ _ c.requires _ _ (said (goal.at.returns c).In_ok-value) (omega arith)

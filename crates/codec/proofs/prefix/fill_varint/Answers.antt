@@ -1,110 +1,34 @@
-use mathlib.Core.List.{[], ◌∷◌}
-use Prim.Native.Nat.{◌+◌, ◌/◌, ◌%◌, ◌≤◌}
+-- `prefix::fill_varint` meets its contract.
+use mathlib.Core.Path.{sym, ap, ◌∙◌}
+use mathlib.Core.List.{List, [], ◌∷◌, ◌++◌}
+use Prim.Native.Nat.{ℕ, ◌+◌, ◌%◌}
 use native.Mathlib.Omega.{arith}
-use lib.ListN.{length, length-set}
-use Rattle.codec.proofs.Laws.Varints.{prefix_1, prefix_2, prefix_3, prefix_4, prefix_5, groups_put, long_1, long_2, long_3, long_4, long_5}
 use Rattle.base.specs.Parts.{over}
+use Rattle.codec.proofs.Laws.Filled.{over_none, over_set}
+use Rattle.codec.proofs.Laws.Varints.{passed_none, passed_last, passed_some, passed_more}
+use lib.ListN.{set}
 use Rattle.codec.proofs.prefix.fill_varint.Goals as goal
 
-pub bounds-out-0 : goal.bounds-out-0
-bounds-out-0 c =
-    let n = c.args.n in
-    let out = c.args.out.now in
-    let h : 1 ≤ length out = omega (arith, long_1 n, c.requires) in
-    omega arith
+pub loop-group-init : goal.loop-group-init
+loop-group-init c = ([], passed_none c.args.n (omega arith), sym (over_none c.args.out.now))
 
-pub returns-then-n-lt128 : goal.returns-then-n-lt128
-unfolding over
-returns-then-n-lt128 c =
-    let n = c.args.n in
-    let out = c.args.out.now in
-    let h : 1 ≤ length out = omega (arith, long_1 n, c.requires) in
-    rw (prefix_1 n (omega arith)) (groups_put (n ∷ []) out h)
+pub returns-then-rest-lt128 : goal.returns-then-rest-lt128
+returns-then-rest-lt128 c =
+    let front = c.loop-group.invariant.0 in
+    ap (λ (o : List ℕ). set o c.loop-group.group-index c.loop-group.rest) c.loop-group.invariant.2
+    ∙ over_set front c.args.out.now c.loop-group.group-index c.loop-group.rest c.loop-group.invariant.1.size c.loop-group-test.true
+    ∙ ap (λ (l : List ℕ). over l c.args.out.now) (sym (passed_last _ _ _ front c.loop-group.invariant.1 c.if-rest-lt128.true))
 
-pub bounds-out-0-2 : goal.bounds-out-0-2
-bounds-out-0-2 c =
-    let n = c.args.n in
-    let out = c.args.out.now in
-    let h : 1 ≤ length out = omega (arith, long_1 n, c.requires) in
-    omega arith
+pub loop-group-preserved : goal.loop-group-preserved
+loop-group-preserved c =
+    let front = c.loop-group.invariant.0 in
+    let group : ℕ = c.loop-group.rest % 128 + 128 in (
+      front ++ (group ∷ []),
+      passed_more _ _ _ front c.loop-group.invariant.1 c.if-rest-lt128.false,
+      ap (λ (o : List ℕ). set o c.loop-group.group-index group) c.loop-group.invariant.2
+          ∙ over_set front c.args.out.now c.loop-group.group-index group c.loop-group.invariant.1.size c.loop-group-test.true,
+    )
 
-pub bounds-out-1 : goal.bounds-out-1
-bounds-out-1 c =
-    let n = c.args.n in
-    let out = c.args.out.now in
-    let h : 2 ≤ length out = omega (arith, long_2 n (omega arith), c.requires) in
-    simp length-set (omega arith)
-
-pub returns-then-a-lt128 : goal.returns-then-a-lt128
-unfolding over
-returns-then-a-lt128 c =
-    let n = c.args.n in
-    let out = c.args.out.now in
-    let h : 2 ≤ length out = omega (arith, long_2 n (omega arith), c.requires) in
-    rw (prefix_2 n (omega arith) (omega arith)) (groups_put ((n % 128 + 128) ∷ n / 128 ∷ []) out h)
-
-pub bounds-out-1-2 : goal.bounds-out-1-2
-bounds-out-1-2 c =
-    let n = c.args.n in
-    let out = c.args.out.now in
-    let h : 2 ≤ length out = omega (arith, long_2 n (omega arith), c.requires) in
-    simp length-set (omega arith)
-
-pub bounds-out-2 : goal.bounds-out-2
-bounds-out-2 c =
-    let n = c.args.n in
-    let out = c.args.out.now in
-    let h : 3 ≤ length out = omega (arith, long_3 n (omega arith) (omega arith), c.requires) in
-    simp length-set (omega arith)
-
-pub returns-then-b-lt128 : goal.returns-then-b-lt128
-unfolding over
-returns-then-b-lt128 c =
-    let n = c.args.n in
-    let out = c.args.out.now in
-    let h : 3 ≤ length out = omega (arith, long_3 n (omega arith) (omega arith), c.requires) in
-    rw (prefix_3 n (omega arith) (omega arith) (omega arith)) (groups_put ((n % 128 + 128) ∷ (n / 128 % 128 + 128) ∷ n / 128 / 128 ∷ []) out h)
-
-pub bounds-out-2-2 : goal.bounds-out-2-2
-bounds-out-2-2 c =
-    let n = c.args.n in
-    let out = c.args.out.now in
-    let h : 3 ≤ length out = omega (arith, long_3 n (omega arith) (omega arith), c.requires) in
-    simp length-set (omega arith)
-
-pub bounds-out-3 : goal.bounds-out-3
-bounds-out-3 c =
-    let n = c.args.n in
-    let out = c.args.out.now in
-    let h : 4 ≤ length out = omega (arith, long_4 n (omega arith) (omega arith) (omega arith), c.requires) in
-    simp length-set (omega arith)
-
-pub returns-then-c-lt128 : goal.returns-then-c-lt128
-unfolding over
-returns-then-c-lt128 c =
-    let n = c.args.n in
-    let out = c.args.out.now in
-    let h : 4 ≤ length out = omega (arith, long_4 n (omega arith) (omega arith) (omega arith), c.requires) in
-    rw (prefix_4 n (omega arith) (omega arith) (omega arith) (omega arith)) (groups_put ((n % 128 + 128) ∷ (n / 128 % 128 + 128) ∷ (n / 128 / 128 % 128 + 128) ∷ n / 128 / 128 / 128 ∷ []) out h)
-
-pub bounds-out-3-2 : goal.bounds-out-3-2
-bounds-out-3-2 c =
-    let n = c.args.n in
-    let out = c.args.out.now in
-    let h : 4 ≤ length out = omega (arith, long_4 n (omega arith) (omega arith) (omega arith), c.requires) in
-    simp length-set (omega arith)
-
-pub bounds-out-4 : goal.bounds-out-4
-bounds-out-4 c =
-    let n = c.args.n in
-    let out = c.args.out.now in
-    let h : 5 ≤ length out = omega (arith, long_5 n (omega arith) (omega arith) (omega arith) (omega arith), c.requires) in
-    simp length-set (omega arith)
-
+-- the groups would not fit
 pub returns : goal.returns
-unfolding over
-returns c =
-    let n = c.args.n in
-    let out = c.args.out.now in
-    let h : 5 ≤ length out = omega (arith, long_5 n (omega arith) (omega arith) (omega arith) (omega arith), c.requires) in
-    rw (prefix_5 n (omega arith) (omega arith) (omega arith) (omega arith) (omega arith)) (groups_put ((n % 128 + 128) ∷ (n / 128 % 128 + 128) ∷ (n / 128 / 128 % 128 + 128) ∷ (n / 128 / 128 / 128 % 128 + 128) ∷ n / 128 / 128 / 128 / 128 ∷ []) out h)
+returns c = absurd (omega (arith, passed_some _ _ _ _ c.loop-group.invariant.1, c.requires, c.loop-group-test.false))

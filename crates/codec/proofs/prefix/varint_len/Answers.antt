@@ -1,30 +1,20 @@
-use mathlib.Core.Path.{sym, ap}
+-- `prefix::varint_len` meets its contract.
+use mathlib.Core.Path.{refl}
 use native.Mathlib.Omega.{arith}
-use lib.ListN.{length}
-use Rattle.codec.proofs.Laws.Varints.{prefix_1, prefix_2, prefix_3, prefix_4, prefix_5}
+use Rattle.codec.proofs.Laws.Varints.{prefix_size}
 use Rattle.codec.proofs.prefix.varint_len.Goals as goal
 
-pub returns-then-n-lt128 : goal.returns-then-n-lt128
-returns-then-n-lt128 c =
-    let n = c.args.n in
-    (sym (ap length (prefix_1 n (omega arith))), omega arith)
+pub returns-in-0-to-127 : goal.returns-in-0-to-127
+returns-in-0-to-127 c = (prefix_size 0 4 c.args.n refl (omega arith) (omega arith), omega arith)
 
-pub returns-then-n-lt16384 : goal.returns-then-n-lt16384
-returns-then-n-lt16384 c =
-    let n = c.args.n in
-    (sym (ap length (prefix_2 n (omega arith) (omega arith))), omega arith)
+pub returns-in-0-to-16383 : goal.returns-in-0-to-16383
+returns-in-0-to-16383 c = (prefix_size 1 3 c.args.n refl (omega arith) (omega arith), omega arith)
 
-pub returns-then-n-lt2097152 : goal.returns-then-n-lt2097152
-returns-then-n-lt2097152 c =
-    let n = c.args.n in
-    (sym (ap length (prefix_3 n (omega arith) (omega arith) (omega arith))), omega arith)
+pub returns-in-0-to-2097151 : goal.returns-in-0-to-2097151
+returns-in-0-to-2097151 c = (prefix_size 2 2 c.args.n refl (omega arith) (omega arith), omega arith)
 
-pub returns-then-n-lt268435456 : goal.returns-then-n-lt268435456
-returns-then-n-lt268435456 c =
-    let n = c.args.n in
-    (sym (ap length (prefix_4 n (omega arith) (omega arith) (omega arith) (omega arith))), omega arith)
+pub returns-in-0-to-268435455 : goal.returns-in-0-to-268435455
+returns-in-0-to-268435455 c = (prefix_size 3 1 c.args.n refl (omega arith) (omega arith), omega arith)
 
-pub returns : goal.returns
-returns c =
-    let n = c.args.n in
-    (sym (ap length (prefix_5 n (omega arith) (omega arith) (omega arith) (omega arith) (omega arith))), omega arith)
+pub returns-in_default : goal.returns-in_default
+returns-in_default c = (prefix_size 4 0 c.args.n refl (omega arith) (omega arith), omega arith)

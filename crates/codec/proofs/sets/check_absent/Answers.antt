@@ -4,10 +4,12 @@ use Rattle.codec.proofs.Laws.Decoding.{dense_few, dense_at}
 use Rattle.codec.proofs.Laws.Gaps.{kept_none, put_kept}
 use Rattle.codec.proofs.sets.check_absent.Goals as goal
 
-pub returns-then-n-count : goal.returns-then-n-count
-returns-then-n-count c =
-    (dense_few _ _ _ c.if-n-count.true, kept_none _ _ _ c.args.room.now (omega arith))
+pub returns-in_err-absent : goal.returns-in_err-absent
+returns-in_err-absent c =
+    rw c.from_residual.ensures (dense_few _ _ _ (omega (arith, c.in_err-absent.ensures)), kept_none _ _ _ c.args.room.now (omega (arith, c.in_err-absent.ensures)))
 
 pub returns : goal.returns
 returns c =
-    (dense_at _ _ c.args.payload.now c.args.at c.read_gaps.result c.if-n-count.false c.read_gaps.ensures.0, put_kept _ _ _ c.args.room.now _ c.read_gaps.ensures.1)
+    let few = c.in_ok-absent.ensures in
+    let gaps = rw few.1 at c.read_gaps.ensures in
+    (dense_at _ _ c.args.payload.now c.args.at c.read_gaps.result few.0 gaps.0, put_kept _ _ _ c.args.room.now _ gaps.1)

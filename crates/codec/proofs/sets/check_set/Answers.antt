@@ -1,10 +1,7 @@
 -- `sets::check_set` meets its contract.
-use mathlib.Core.Path.{sym, ◌∙◌}
-use mathlib.Core.Bool.{Bool, true, false}
-use mathlib.Core.List.{List}
 use lib.ListN.{drop}
 use Rattle.codec.specs.Bits.{bits_of}
-use Rattle.codec.proofs.Laws.Decoding.{no_length, no_body, padded_body, body_count}
+use Rattle.codec.proofs.Laws.Decoding.{no_length, no_body, payload_tested}
 use borrow.Author.Rules.{rules}
 use Rattle.codec.proofs.sets.check_set.Goals as goal
 
@@ -23,18 +20,7 @@ returns-in_err-behind c =
 pub is_padding-requires : goal.is_padding-requires
 is_padding-requires c = (search rules, c.in_ok-behind.ensures.0.1)
 
-pub returns-then-is_padding : goal.returns-then-is_padding
-returns-then-is_padding c =
-    let bits : List Bool = bits_of c.args.payload.now in (
-      (
-        (c.in_ok-behind.ensures.0.0.0, padded_body c.args.n c.args.payload.now _ (drop c.in_ok-value.field-0.next bits) c.in_ok-value.ensures.0 c.in_ok-behind.ensures.0.0.0 (drop c.in_ok-behind.behind bits) c.in_ok-behind.ensures.0.0.1 true (sym c.if-is_padding.true ∙ c.is_padding.ensures), body_count c.args.n c.args.payload.now _ (drop c.in_ok-value.field-0.next bits) c.in_ok-value.ensures.0 c.in_ok-behind.ensures.0.0.0 _ c.in_ok-behind.ensures.0.0.1),
-        c.in_ok-value.ensures.0,
-        c.in_ok-value.ensures.1,
-      ),
-      c.check_body.ensures.1,
-    )
-
 pub returns : goal.returns
 returns c =
-    let bits : List Bool = bits_of c.args.payload.now in
-    (padded_body c.args.n c.args.payload.now _ (drop c.in_ok-value.field-0.next bits) c.in_ok-value.ensures.0 c.in_ok-behind.ensures.0.0.0 (drop c.in_ok-behind.behind bits) c.in_ok-behind.ensures.0.0.1 false (sym c.if-is_padding.false ∙ c.is_padding.ensures), tt)
+    rw c.then_some.ensures
+    (payload_tested c.args.n c.args.payload.now _ _ c.in_ok-behind.ensures.0.0.0 _ _ c.is_padding.result c.in_ok-value.ensures.0 c.in_ok-value.ensures.1 c.in_ok-behind.ensures.0.0.1 c.check_body.ensures.1 c.is_padding.ensures)

@@ -13,13 +13,13 @@ use Rattle.codec.proofs.Laws.Low.{length_bits}
 use Rattle.codec.proofs.Laws.Decoding.{padding_test}
 use Rattle.codec.proofs.sets.is_padding.Goals as goal
 
-pub returns-then-left-ge8 : goal.returns-then-left-ge8
-returns-then-left-ge8 c =
-    let bytes : List ℕ = c.args.payload.now in
-    sym (and_left_no _ _ (le-ltb (length (drop c.args.at (bits_of bytes))) 8 (simp length-drop (omega (arith, length_bits bytes)))))
-
-pub returns : goal.returns
-returns c =
+pub returns-then-left-lt8 : goal.returns-then-left-lt8
+returns-then-left-lt8 c =
     let bytes : List ℕ = c.args.payload.now in
     let bits : List Bool = drop c.args.at (bits_of bytes) in
     padding_test bits c.bits_at.result (c.bits_at.ensures.0 ∙ ap value_of (take_all (length bytes * 8 - c.args.at) bits (simp length-drop (omega (arith, length_bits bytes))))) (simp length-drop (omega (arith, length_bits bytes)))
+
+pub returns-else-left-lt8 : goal.returns-else-left-lt8
+returns-else-left-lt8 c =
+    let bytes : List ℕ = c.args.payload.now in
+    le-ltb _ 8 c.if-left-lt8.false ∙ sym (and_left_no _ _ (le-ltb (length (drop c.args.at (bits_of bytes))) 8 (simp length-drop (omega (arith, length_bits bytes)))))
