@@ -45,21 +45,21 @@ pub(crate) fn chunk_width(base: u32, n: u32) -> u32
 }
 
 // The bitmap behind the bits of `w`.
-pub(crate) fn write_map(out: &mut [u8], w: BitWriter, set: ColorSet) -> BitWriter
-    requires { Ready out.old w set.n }
-    ensures { Wrote out.old out.new w result (map_bits 0 set.entry.n set.entry.ids.now) }
+pub(crate) fn write_map(w: &mut BitWriter, set: ColorSet)
+    requires { Ready w.old set.n }
+    ensures same_reference { w.new.out.ghost_name ≡ w.old.out.ghost_name }
+    ensures wrote { Wrote w.old w.new (map_bits 0 set.entry.n set.entry.ids.now) }
 {
-    let mut written = w;
     let mut i: usize = 0;
     let mut base: u32 = 0;
+    // By hand, as in `count_map`.
     while base < set.n {
         let width = chunk_width(base, set.n);
         let c = map_chunk(set, i, base, width);
-        written = crate::bits::push(out, written, c.word, width);
+        w.push(c.word, width);
         i = c.next;
         base += width;
     }
-    written
 }
 
 // The place behind the bitmap, where it stands at bit place `at`.
@@ -72,6 +72,7 @@ pub(crate) fn same_map(bytes: &[u8], at: usize, set: ColorSet) -> Option<usize>
     }
     let mut i: usize = 0;
     let mut base: u32 = 0;
+    // By hand, as in `count_map`.
     while base < set.n {
         let width = chunk_width(base, set.n);
         let c = map_chunk(set, i, base, width);

@@ -1,9 +1,9 @@
 // Bits of a byte slice, lowest first, and a writer of bits.
 ghost use Rattle.std.specs.Prelude.{◌≡◌, ◌++◌, ◌+◌, ◌-◌, ◌*◌, ◌<◌, ◌≤◌, ◌^◌, length, slice_get, take, drop};
 ghost use Rattle.base.specs.Parts.{over};
-ghost use Rattle.codec.specs.Bits.{bits_of, value_of, low_bits, pack_bits};
+ghost use Rattle.codec.specs.Bits.{bits_of, value_of, low_bits, pack_bits, AreBytes};
 ghost use Rattle.codec.specs.Inside.Windows.{Window};
-ghost use Rattle.codec.specs.Inside.Writers.{stream_of, Ready, Wrote};
+ghost use Rattle.codec.specs.Inside.Writers.{stream_of, Fresh, Ready, Wrote};
 
 // Bit `at` of the slice, if it has one.
 pub(crate) fn bit_at(bytes: &[u8], at: usize) -> Option<bool>
@@ -75,56 +75,72 @@ pub(crate) fn bits_at(bytes: &[u8], at: usize, b: usize) -> u64
 
 // A writer of bits over a lent buffer: `at` whole bytes are written, and the low `pending` bits of
 // `acc` wait.
-#[derive(Clone, Copy)]
-pub(crate) struct BitWriter {
+#[derive(Drop)]
+pub(crate) struct BitWriter<'a> {
+    pub(crate) out: &'a mut [u8],
     pub(crate) at: usize,
     pub(crate) acc: u64,
     pub(crate) pending: u32,
 }
 
-// The low `count` bits of `value` behind the bits of `w`.
-pub(crate) fn push(out: &mut [u8], w: BitWriter, value: u64, count: u32) -> BitWriter
-    requires ready { Ready out.old w count }
-    requires value_bound { (value < 2 ^ count) × (count ≤ 32) }
-    ensures { Wrote out.old out.new w result (low_bits count value) }
-{
-    let at = w.at;
-    let pending = w.pending + count;
-    let acc = w.acc + (value << w.pending);
-    if pending < 32 {
-        return BitWriter { at, acc, pending };
+impl<'a> BitWriter<'a> {
+    // A writer at the front of a buffer.
+    pub(crate) fn new(out: &'a mut [u8]) -> Self
+        ensures same_reference { result.out.ghost_name ≡ out.entry.ghost_name }
+        ensures front { Fresh out.old result }
+    {
+        Self {
+            out,
+            at: 0,
+            acc: 0,
+            pending: 0,
+        }
     }
-    let a1 = acc / 256;
-    let a2 = a1 / 256;
-    let a3 = a2 / 256;
-    out[at] = (acc % 256) as u8;
-    out[at + 1] = (a1 % 256) as u8;
-    out[at + 2] = (a2 % 256) as u8;
-    out[at + 3] = (a3 % 256) as u8;
-    BitWriter {
-        at: at + 4,
-        acc: a3 / 256,
-        pending: pending - 32,
-    }
-}
 
-// The bits of `w` as bytes, the last padded with zeros: how many.
-pub(crate) fn finish(out: &mut [u8], w: BitWriter) -> usize
-    requires { Ready out.old w 0 }
-    ensures { (result ≡ length (pack_bits (stream_of out.old w))) × (out.new ≡ pack_bits (stream_of out.old w) ++ drop result out.old) }
-{
-    let mut at = w.at;
-    let mut acc = w.acc;
-    let mut left = w.pending;
-    while 8 <= left {
-        out[at] = (acc % 256) as u8;
-        acc = acc / 256;
-        at += 1;
-        left -= 8;
+    // The low `count` bits of `value` behind the bits written.
+    pub(crate) fn push(&mut self, value: u64, count: u32)
+        requires ready { Ready self.old count }
+        requires value_bound { (value < 2 ^ count) × (count ≤ 32) }
+        ensures same_reference { self.new.out.ghost_name ≡ self.old.out.ghost_name }
+        ensures wrote { Wrote self.old self.new (low_bits count value) }
+    {
+        let acc = self.acc + (value << self.pending);
+        self.pending += count;
+        if self.pending < 32 {
+            self.acc = acc;
+            return;
+        }
+        let a1 = acc / 256;
+        let a2 = a1 / 256;
+        let a3 = a2 / 256;
+        let at = self.at;
+        self.out[at] = (acc % 256) as u8;
+        self.out[at + 1] = (a1 % 256) as u8;
+        self.out[at + 2] = (a2 % 256) as u8;
+        self.out[at + 3] = (a3 % 256) as u8;
+        self.at += 4;
+        self.acc = a3 / 256;
+        self.pending -= 32;
     }
-    if left == 0 {
-        return at;
+
+    // The bits written as bytes, the last padded with zeros: how many.
+    pub(crate) fn finish(&mut self) -> usize
+        requires { Ready self.old 0 × AreBytes self.old.out.now }
+        ensures same_reference { self.new.out.ghost_name ≡ self.old.out.ghost_name }
+        ensures packed { (result ≡ length (pack_bits (stream_of self.old))) × (self.new.out.now ≡ pack_bits (stream_of self.old) ++ drop result self.old.out.now) }
+    {
+        let first = self.at;
+        let pending = self.pending;
+        let whole = first + (pending / 8) as usize;
+        let mut acc = self.acc;
+        for at in first..whole {
+            self.out[at] = (acc % 256) as u8;
+            acc /= 256;
+        }
+        if pending % 8 == 0 {
+            return whole;
+        }
+        self.out[whole] = (acc % 256) as u8;
+        whole + 1
     }
-    out[at] = (acc % 256) as u8;
-    at + 1
 }

@@ -221,10 +221,11 @@ pub(crate) fn delta_len(v: u32) -> usize
 }
 
 // The delta code of `v` behind the bits of `w`.
-pub(crate) fn write_delta(out: &mut [u8], w: BitWriter, v: u32) -> BitWriter
-    requires { (v ≤ 2 ^ 20) × Ready out.old w (length (delta v)) }
-    ensures { Wrote out.old out.new w result (delta v) }
+pub(crate) fn write_delta(w: &mut BitWriter, v: u32)
+    requires { (v ≤ 2 ^ 20) × Ready w.old (length (delta v)) }
+    ensures same_reference { w.new.out.ghost_name ≡ w.old.out.ghost_name }
+    ensures wrote { Wrote w.old w.new (delta v) }
 {
     let c = delta_word(v);
-    crate::bits::push(out, w, c.value, c.count)
+    w.push(c.value, c.count);
 }

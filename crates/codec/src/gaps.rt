@@ -138,17 +138,16 @@ pub(crate) fn gaps_len<C: CodedIds>(set: ColorSet) -> usize
 }
 
 // The coded ids of a set behind the bits of `w`.
-pub(crate) fn write_gaps<C: CodedIds>(out: &mut [u8], w: BitWriter, set: ColorSet) -> BitWriter
-    requires { Ready out.old w (length (gap_bits 0 (coded_ids C.dense set.n set.ids.now))) }
-    ensures { Wrote out.old out.new w result (gap_bits 0 (coded_ids C.dense set.entry.n set.entry.ids.now)) }
+pub(crate) fn write_gaps<C: CodedIds>(w: &mut BitWriter, set: ColorSet)
+    requires { Ready w.old (length (gap_bits 0 (coded_ids C.dense set.n set.ids.now))) }
+    ensures same_reference { w.new.out.ghost_name ≡ w.old.out.ghost_name }
+    ensures wrote { Wrote w.old w.new (gap_bits 0 (coded_ids C.dense set.entry.n set.entry.ids.now)) }
 {
-    let mut written = w;
     let mut c = Cursor { i: 0, from: 0 };
     while let Some(NextId { id, next }) = C::next_id(set, c) {
-        written = crate::codes::write_delta(out, written, id - c.from);
+        crate::codes::write_delta(w, id - c.from);
         c = next;
     }
-    written
 }
 
 // The place behind the coded ids of a set, where they stand at bit place `at`.

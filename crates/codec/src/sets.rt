@@ -70,15 +70,16 @@ pub(crate) fn set_len(set: ColorSet) -> usize
 }
 
 // The ids behind the bits of `w`.
-pub(crate) fn write_body(out: &mut [u8], w: BitWriter, set: ColorSet) -> BitWriter
-    requires { Ready out.old w (length (body_bits (regime set.n (length set.ids.now)) set.n set.ids.now)) }
-    ensures { Wrote out.old out.new w result (body_bits (regime set.entry.n (length set.entry.ids.now)) set.entry.n set.entry.ids.now) }
+pub(crate) fn write_body(w: &mut BitWriter, set: ColorSet)
+    requires { Ready w.old (length (body_bits (regime set.n (length set.ids.now)) set.n set.ids.now)) }
+    ensures same_reference { w.new.out.ghost_name ≡ w.old.out.ghost_name }
+    ensures wrote { Wrote w.old w.new (body_bits (regime set.entry.n (length set.entry.ids.now)) set.entry.n set.entry.ids.now) }
 {
     match kind_of(set.n, set.ids.len()) {
-        Kind::Empty => w,
-        Kind::Sparse => crate::gaps::write_gaps::<Present>(out, w, set),
-        Kind::Bitmap => crate::bitmap::write_map(out, w, set),
-        Kind::Dense => crate::gaps::write_gaps::<Absent>(out, w, set),
+        Kind::Empty => {}
+        Kind::Sparse => crate::gaps::write_gaps::<Present>(w, set),
+        Kind::Bitmap => crate::bitmap::write_map(w, set),
+        Kind::Dense => crate::gaps::write_gaps::<Absent>(w, set),
     }
 }
 
@@ -87,14 +88,10 @@ pub(crate) fn encode_source_set(out: &mut [u8], set: ColorSet) -> usize
     requires { length (encode_set set.n set.ids.now) ≤ length out.old }
     ensures { (result ≡ length (encode_set set.entry.n set.entry.ids.now)) × (out.new ≡ over (encode_set set.entry.n set.entry.ids.now) out.old) }
 {
-    let w = BitWriter {
-        at: 0,
-        acc: 0,
-        pending: 0,
-    };
-    let w = crate::codes::write_delta(out, w, set.ids.len() as u32);
-    let w = write_body(out, w, set);
-    crate::bits::finish(out, w)
+    let mut w = BitWriter::new(out);
+    crate::codes::write_delta(&mut w, set.ids.len() as u32);
+    write_body(&mut w, set);
+    w.finish()
 }
 
 // The number of ids that a payload holds and the bit place behind that number.

@@ -1,6 +1,6 @@
 -- Laws of writing a set: the bits of its body by kind, its payload, and its record.
 use Prim.Native.Nat.{ℕ, ◌+◌, ◌-◌, ◌^◌, ◌≤◌, ◌<◌}
-use mathlib.Core.Path.{◌≡◌, sym, ap, ap₂, ◌∙◌}
+use mathlib.Core.Path.{◌≡◌, refl, sym, ap, ap₂, ◌∙◌}
 use mathlib.Core.Bool.{Bool, true, false}
 use mathlib.Core.List.{List, [], ◌∷◌, ◌++◌}
 use native.Mathlib.Omega.{arith}
@@ -18,7 +18,7 @@ use Rattle.codec.specs.Sets.{Within, map_bits, gap_bits, Regime, regime, body_bi
 use Rattle.codec.specs.Inside.Gaps.{coded_ids}
 use Rattle.codec.specs.Inside.Payloads.{regime_of}
 use Rattle.codec.specs.Records.{bad_colors, record_of}
-use Rattle.codec.specs.Inside.Writers.{stream_of, Ready, Wrote}
+use Rattle.codec.specs.Inside.Writers.{stream_of, Fresh, Ready, Wrote}
 use Rattle.codec.specs.declared.bits.BitWriter.{BitWriter}
 use Rattle.codec.specs.declared.sets.Kind.{Kind}
 use Rattle.codec.specs.declared.sets.Kind.TheVariants.{Empty, Sparse, Bitmap, Dense}
@@ -64,25 +64,28 @@ module _ (N : ℕ) (ids : List ℕ) (body : List Bool) (is : body ≡ body_bits 
 -- ---- payloads
 
 -- a writer at the front of a buffer that the payload fits
-pub ready_front : (N : ℕ) (ids out : List ℕ) → length (encode_set N ids) ≤ length out → Ready out (record { at = 0; acc = 0; pending = 0 }) (length (set_bits N ids))
-ready_front N ids out h = record { few = omega arith; small = omega arith; room = omega (arith, length_payload N ids) }
+pub ready_front : (N : ℕ) (ids out : List ℕ) (f : BitWriter) → Fresh out f → length (encode_set N ids) ≤ length out → Ready f (length (set_bits N ids))
+ready_front N ids out f is h =
+    let small : f.acc < 2 ^ f.pending = rw (is.empty, is.none) (omega arith) in
+    record { few = omega (arith, is.none); small = small; room = omega (arith, is.front, is.none, ap length is.buffer, length_payload N ids, h) }
 
 -- the length and then the body, written one behind the other
-pub set_written : (N : ℕ) (ids out mid after : List ℕ) (w v r : BitWriter) → Wrote out mid w v (delta (length ids)) → Wrote mid after v r (body_bits (regime N (length ids)) N ids) → Wrote out after w r (set_bits N ids)
+pub set_written : (N : ℕ) (ids : List ℕ) (w v r : BitWriter) → Wrote w v (delta (length ids)) → Wrote v r (body_bits (regime N (length ids)) N ids) → Wrote w r (set_bits N ids)
 unfolding set_bits
-set_written N ids out mid after w v r a b = wrote_then out mid w v (delta (length ids)) a after r (body_bits (regime N (length ids)) N ids) b
+set_written N ids w v r a b = wrote_then w v (delta (length ids)) a r (body_bits (regime N (length ids)) N ids) b
 
 -- the bits written from the front on, as bytes
-pub encoded : (N r : ℕ) (ids out mid after : List ℕ) (w : BitWriter) → Wrote out mid (record { at = 0; acc = 0; pending = 0 }) w (set_bits N ids)
-    → r ≡ length (pack_bits (stream_of mid w)) → after ≡ pack_bits (stream_of mid w) ++ drop r mid → (r ≡ length (encode_set N ids)) × (after ≡ over (encode_set N ids) out)
+pub encoded : (N r : ℕ) (ids out after : List ℕ) (f w : BitWriter) → Fresh out f → Wrote f w (set_bits N ids)
+    → r ≡ length (pack_bits (stream_of w)) → after ≡ pack_bits (stream_of w) ++ drop r w.out.now → (r ≡ length (encode_set N ids)) × (after ≡ over (encode_set N ids) out)
 unfolding over encode_set low_bits bits_of
-encoded N r ids out mid after w a n e =
-    let p : pack_bits (stream_of mid w) ≡ pack_bits (set_bits N ids) = ap pack_bits a.stream in
+encoded N r ids out after f w is a n e =
+    let nothing : stream_of f ≡ [] = rw (is.front, is.none) refl in
+    let p : pack_bits (stream_of w) ≡ pack_bits (set_bits N ids) = ap pack_bits (a.stream ∙ ap (λ (l : List Bool). l ++ set_bits N ids) nothing) in
     let q : r ≡ length (pack_bits (set_bits N ids)) = n ∙ ap length p in
     let s : r ≡ bytes_for (length (set_bits N ids)) = q ∙ length_payload N ids in
-    let d : w.at + (r - w.at) ≡ r = omega (arith, a.place, s) in
-    let k : drop r mid ≡ drop r out =
-    ap (λ (m : ℕ). drop m mid) (sym d) ∙ sym (drop-drop (r - w.at) w.at mid) ∙ ap (drop (r - w.at)) a.kept ∙ drop-drop (r - w.at) w.at out ∙ ap (λ (m : ℕ). drop m out) d
+    let d : w.at + (r - w.at) ≡ r = omega (arith, a.place, s, is.front, is.none) in
+    let k : drop r w.out.now ≡ drop r out =
+    ap (λ (m : ℕ). drop m w.out.now) (sym d) ∙ sym (drop-drop (r - w.at) w.at w.out.now) ∙ ap (drop (r - w.at)) a.kept ∙ drop-drop (r - w.at) w.at f.out.now ∙ ap (λ (m : ℕ). drop m f.out.now) d ∙ ap (drop r) is.buffer
     in
     (q, e ∙ ap₂ (λ (x y : List ℕ). x ++ y) p (k ∙ ap (λ (m : ℕ). drop m out) q))
 

@@ -10,36 +10,38 @@ use lib.Seq.{drop-drop}
 use Rattle.codec.specs.Inside.Writers.{stream_of, Ready, Wrote}
 use Rattle.codec.specs.declared.bits.BitWriter.{BitWriter}
 
-pub wrote_none : (out : List ℕ) (w : BitWriter) (spare : ℕ) → Ready out w spare → Wrote out out w w []
-wrote_none out w spare r = record {
-  stream = sym (append-nil (stream_of out w));
+pub wrote_none : (w : BitWriter) (spare : ℕ) → Ready w spare → Wrote w w []
+wrote_none w spare r = record {
+  stream = sym (append-nil (stream_of w));
   few = r.few;
   small = r.small;
   forth = le_refl w.at;
   place = omega arith;
   size = refl;
   kept = refl;
+  bytes = λ h. h;
 }
 
-module _ (out mid : List ℕ) (w v : BitWriter) (xs : List Bool) (a : Wrote out mid w v xs) where
-  pub wrote_then : (after : List ℕ) (r : BitWriter) (ys : List Bool) → Wrote mid after v r ys → Wrote out after w r (xs ++ ys)
-  wrote_then after r ys b =
+module _ (w v : BitWriter) (xs : List Bool) (a : Wrote w v xs) where
+  pub wrote_then : (r : BitWriter) (ys : List Bool) → Wrote v r ys → Wrote w r (xs ++ ys)
+  wrote_then r ys b =
       let n : v.at + (r.at - v.at) ≡ r.at = omega (arith, b.forth) in
       record {
-        stream = b.stream ∙ ap (λ (l : List Bool). l ++ ys) a.stream ∙ append_assoc (stream_of out w) xs ys;
+        stream = b.stream ∙ ap (λ (l : List Bool). l ++ ys) a.stream ∙ append_assoc (stream_of w) xs ys;
         few = b.few;
         small = b.small;
         forth = le_trans a.forth b.forth;
         place = omega (arith, a.place, b.place, length-append xs ys);
         size = b.size ∙ a.size;
         kept = b.kept ∙ later (r.at - v.at) r.at n;
+        bytes = λ h. b.bytes (a.bytes h);
       }
     where
-      later : (k n : ℕ) → v.at + k ≡ n → drop n mid ≡ drop n out
-      later k n e = ap (λ (m : ℕ). drop m mid) (sym e) ∙ sym (drop-drop k v.at mid) ∙ ap (drop k) a.kept ∙ drop-drop k v.at out ∙ ap (λ (m : ℕ). drop m out) e
+      later : (k n : ℕ) → v.at + k ≡ n → drop n v.out.now ≡ drop n w.out.now
+      later k n e = ap (λ (m : ℕ). drop m v.out.now) (sym e) ∙ sym (drop-drop k v.at v.out.now) ∙ ap (drop k) a.kept ∙ drop-drop k v.at w.out.now ∙ ap (λ (m : ℕ). drop m w.out.now) e
 
   -- and room is left for what was not written yet
-  pub ready_after : (spare more : ℕ) → Ready out w spare → length xs + more ≤ spare → Ready mid v more
+  pub ready_after : (spare more : ℕ) → Ready w spare → length xs + more ≤ spare → Ready v more
   ready_after spare more r h = record {
     few = a.few;
     small = a.small;

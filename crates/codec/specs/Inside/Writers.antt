@@ -1,30 +1,39 @@
 -- What a bit writer holds.
 use Rattle.std.specs.Prelude.{ℕ, ◌+◌, ◌*◌, ◌≤◌, ◌<◌, ◌^◌, ◌≡◌, Bool, List, ◌++◌, length, take, drop}
-use Rattle.codec.specs.Bits.{bits_of, low_bits}
+use Rattle.codec.specs.Bits.{bits_of, low_bits, AreBytes}
 use Rattle.codec.specs.Codes.{high_bit}
 use Rattle.codec.specs.declared.bits.BitWriter.{BitWriter}
 use Rattle.codec.specs.declared.codes.Codeword.{Codeword}
 use Rattle.codec.specs.declared.codes.Split.{Split}
 
 -- the bits written: those of the whole bytes in the buffer, then the pending ones
-abbrev pub stream_of : List ℕ → BitWriter → List Bool
-stream_of out w = bits_of (take w.at out) ++ low_bits w.pending w.acc
+abbrev pub stream_of : BitWriter → List Bool
+stream_of w = bits_of (take w.at w.out.now) ++ low_bits w.pending w.acc
+
+-- a writer at the front of a buffer, that holds nothing yet
+pub record Fresh (out : List ℕ) (w : BitWriter) : Type 0 where
+  pub buffer : w.out.now ≡ out
+  pub front : w.at ≡ 0
+  pub empty : w.acc ≡ 0
+  pub none : w.pending ≡ 0
+  pub bytes : AreBytes out
 
 -- a writer with room for `spare` bits more
-pub record Ready (out : List ℕ) (w : BitWriter) (spare : ℕ) : Type 0 where
+pub record Ready (w : BitWriter) (spare : ℕ) : Type 0 where
   pub few : w.pending < 32
   pub small : w.acc < 2 ^ w.pending
-  pub room : 8 * w.at + w.pending + spare ≤ 8 * length out
+  pub room : 8 * w.at + w.pending + spare ≤ 8 * length w.out.now
 
 -- a writer after `bits` were put behind its own; what lies behind its place is as it was
-pub record Wrote (out after : List ℕ) (w r : BitWriter) (bits : List Bool) : Type 0 where
-  pub stream : stream_of after r ≡ stream_of out w ++ bits
+pub record Wrote (w r : BitWriter) (bits : List Bool) : Type 0 where
+  pub stream : stream_of r ≡ stream_of w ++ bits
   pub few : r.pending < 32
   pub small : r.acc < 2 ^ r.pending
   pub forth : w.at ≤ r.at
   pub place : 8 * r.at + r.pending ≡ 8 * w.at + w.pending + length bits
-  pub size : length after ≡ length out
-  pub kept : drop r.at after ≡ drop r.at out
+  pub size : length r.out.now ≡ length w.out.now
+  pub kept : drop r.at r.out.now ≡ drop r.at w.out.now
+  pub bytes : AreBytes w.out.now → AreBytes r.out.now
 
 -- a number whose low bits are the code
 pub record CodewordOf (w : Codeword) (bits : List Bool) : Type 0 where

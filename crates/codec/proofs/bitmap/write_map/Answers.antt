@@ -1,4 +1,4 @@
-use mathlib.Core.Path.{sym, subst}
+use mathlib.Core.Path.{refl, sym, ◌∙◌, subst}
 use mathlib.Core.List.{[], ◌++◌}
 use native.Mathlib.Omega.{arith}
 use Rattle.codec.specs.Bits.{low_bits}
@@ -10,15 +10,15 @@ use Rattle.codec.proofs.bitmap.write_map.Goals as goal
 pub loop-base-init : goal.loop-base-init
 loop-base-init c =
     let a = c.args in
-    ([], mapping_start a.set.n a.set.ids.now a.set.within, wrote_none a.out.now a.w a.set.n c.requires)
+    ([], mapping_start a.set.n a.set.ids.now a.set.within, wrote_none a.w.now a.set.n c.requires, refl)
 
 pub map_chunk-c-requires : goal.map_chunk-c-requires
 map_chunk-c-requires c =
     (c.loop-base.invariant.1.ahead, c.chunk_width-width.ensures.1, c.chunk_width-width.ensures.2)
 
-pub push-written-requires : goal.push-written-requires
-push-written-requires c =
-    let a = c.args in record { ready = ready_after a.out.now c.loop-base.out a.w c.loop-base.written c.loop-base.invariant.0 c.loop-base.invariant.2 a.set.n c.chunk_width-width.result c.requires (omega (arith, mapping_count a.set.n a.set.ids.now c.loop-base.i c.loop-base.base c.loop-base.invariant.0 c.loop-base.invariant.1, c.chunk_width-width.ensures.2)); value_bound = (c.map_chunk-c.ensures.small, c.chunk_width-width.ensures.1) }
+pub push-requires : goal.push-requires
+push-requires c =
+    let a = c.args in record { ready = ready_after a.w.now c.loop-base.w c.loop-base.invariant.0 c.loop-base.invariant.2 a.set.n c.chunk_width-width.result c.requires (omega (arith, mapping_count a.set.n a.set.ids.now c.loop-base.i c.loop-base.base c.loop-base.invariant.0 c.loop-base.invariant.1, c.chunk_width-width.ensures.2)); value_bound = (c.map_chunk-c.ensures.small, c.chunk_width-width.ensures.1) }
 
 pub overflow_add-base : goal.overflow_add-base
 overflow_add-base c = omega (arith, c.chunk_width-width.ensures.2, c.chunk_width-width.ensures.3)
@@ -31,13 +31,11 @@ loop-base-preserved c =
     let a = c.args in (
       c.loop-base.invariant.0 ++ low_bits c.chunk_width-width.result c.map_chunk-c.result.word,
       mapping_next a.set.n a.set.ids.now c.loop-base.i c.loop-base.base c.loop-base.invariant.0 c.loop-base.invariant.1 c.chunk_width-width.result c.map_chunk-c.result c.map_chunk-c.ensures,
-      wrote_then a.out.now c.loop-base.out a.w c.loop-base.written c.loop-base.invariant.0 c.loop-base.invariant.2 c.push-written.new.out c.push-written.result (low_bits c.chunk_width-width.result c.map_chunk-c.result.word) c.push-written.ensures,
+      wrote_then a.w.now c.loop-base.w c.loop-base.invariant.0 c.loop-base.invariant.2 c.push.new.self (low_bits c.chunk_width-width.result c.map_chunk-c.result.word) c.push.ensures.wrote,
+      c.push.ensures.same_reference ∙ c.loop-base.invariant.3,
     )
 
-pub shape_of-out : goal.shape_of-out
-shape_of-out c = c.loop-base.invariant.2.size
-
-pub returns : goal.returns
-returns c =
+pub returns-clause-wrote : goal.returns-clause-wrote
+returns-clause-wrote c =
     let a = c.args in
-    subst (Wrote a.out.now c.loop-base.out a.w c.loop-base.written) (sym (mapping_end a.set.n a.set.ids.now c.loop-base.i c.loop-base.base c.loop-base.invariant.0 c.loop-base.invariant.1 (omega arith))) c.loop-base.invariant.2
+    subst (Wrote a.w.now c.loop-base.w) (sym (mapping_end a.set.n a.set.ids.now c.loop-base.i c.loop-base.base c.loop-base.invariant.0 c.loop-base.invariant.1 (omega arith))) c.loop-base.invariant.2

@@ -1,5 +1,6 @@
 -- `codec::bitmap::write_map` meets its contract. The loop's invariant: the bits below `base` are written.
 use Prim.Native.Nat.{◌-◌}
+use mathlib.Core.Path.{◌≡◌}
 use mathlib.Core.Bool.{Bool}
 use mathlib.Core.List.{List}
 use Rattle.codec.specs.Inside.Writers.{Wrote}
@@ -7,7 +8,7 @@ use Rattle.codec.proofs.Laws.Bitmaps.{Mapping}
 use Rattle.codec.proofs.bitmap.write_map.Given as goal
 
 abbrev pub invariant-loop-base : goal.invariant-loop-base
-invariant-loop-base l = (done : List Bool) × Mapping l.set.n l.set.ids.now l.i l.base done × Wrote l.initial.out l.out l.initial.written l.written done
+invariant-loop-base l = (done : List Bool) × Mapping l.set.n l.set.ids.now l.i l.base done × Wrote l.initial.w l.w done × (l.w.out.ghost_name ≡ l.initial.w.out.ghost_name)
 
 abbrev pub decreases-loop-base : goal.decreases-loop-base
 decreases-loop-base l = l.set.n - l.base

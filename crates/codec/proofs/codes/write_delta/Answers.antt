@@ -1,4 +1,4 @@
--- `codec::put_delta` meets its contract.
+-- `codes::write_delta` meets its contract.
 use mathlib.Core.Path.{◌≡◌, sym, ap, ◌∙◌, subst}
 use native.Mathlib.Omega.{arith}
 use lib.ListN.{length}
@@ -10,8 +10,7 @@ use Rattle.codec.proofs.codes.write_delta.Goals as goal
 pub push-requires : goal.push-requires
 push-requires c =
     let e : length (delta c.args.v) ≡ c.delta_word-c.result.count = sym (ap length c.delta_word-c.ensures.0.code) ∙ length_low c.delta_word-c.result.count c.delta_word-c.result.value in
-    record { ready = subst (Ready c.args.out.now c.args.w) e c.requires.1; value_bound = (c.delta_word-c.ensures.0.small, omega arith) }
+    record { ready = subst (Ready c.args.w.now) e c.requires.1; value_bound = (c.delta_word-c.ensures.0.small, omega arith) }
 
-pub returns : goal.returns
-returns c =
-    subst (Wrote c.args.out.now c.push.new.out c.args.w c.push.result) c.delta_word-c.ensures.0.code c.push.ensures
+pub returns-clause-wrote : goal.returns-clause-wrote
+returns-clause-wrote c = subst (Wrote c.args.w.now c.push.new.self) c.delta_word-c.ensures.0.code c.push.ensures.wrote

@@ -1,5 +1,6 @@
 -- `gaps::write_gaps` meets its contract. The loop's invariant: the bits of the ids passed are written.
 use Prim.Native.Nat.{◌-◌}
+use mathlib.Core.Path.{◌≡◌}
 use mathlib.Core.Bool.{Bool}
 use mathlib.Core.List.{List}
 use Rattle.codec.specs.Inside.Writers.{Wrote}
@@ -7,7 +8,7 @@ use Rattle.codec.proofs.Laws.Coded.{Coding}
 use Rattle.codec.proofs.gaps.write_gaps.Given as goal
 
 abbrev pub invariant-loop-id : goal.invariant-loop-id
-invariant-loop-id g l = (done : List Bool) × Coding g.C.CodedIds.dense l.set.n l.set.ids.now l.c done × Wrote l.initial.out l.out l.initial.written l.written done
+invariant-loop-id g l = (done : List Bool) × Coding g.C.CodedIds.dense l.set.n l.set.ids.now l.c done × Wrote l.initial.w l.w done × (l.w.out.ghost_name ≡ l.initial.w.out.ghost_name)
 
 abbrev pub decreases-loop-id : goal.decreases-loop-id
 decreases-loop-id g l = l.set.n - l.c.from
