@@ -57,22 +57,24 @@ fn swap_fours(runs: &mut [u64], n: u32) -> Ends
     ensures { Swapped n runs.old runs.new (offset result.behind) result.done }
 {
     let m = runs.len();
-    let top = n as u64;
+    let rounds = m / 8;
+    let top = u64::from(n);
     let mut behind = top;
-    let mut i: usize = 0;
-    while i + i + 8 <= m {
+    for round in 0..rounds {
+        let i = 4 * round;
         let k = m - 4 - i;
-        let after = i + 4;
-        let next = runs[after];
+        let next = runs[i + 4];
         let last = runs[k];
         let low = four_back(runs, i, next, top);
         let high = four_back(runs, k, behind, top);
         put_four(runs, i, high);
         put_four(runs, k, low);
         behind = last;
-        i = after;
     }
-    Ends { done: i, behind }
+    Ends {
+        done: 4 * rounds,
+        behind,
+    }
 }
 
 // The list reversed: the runs left between one by one.
@@ -81,11 +83,11 @@ pub(crate) fn swap_ends(runs: &mut [u64], n: u32)
     ensures { runs.new ≡ reverse_runs n runs.old }
 {
     let m = runs.len();
-    let top = n as u64;
+    let middle = m / 2;
+    let top = u64::from(n);
     let ends = swap_fours(runs, n);
     let mut behind = ends.behind;
-    let mut i = ends.done;
-    while i + i + 1 < m {
+    for i in ends.done..middle {
         let k = m - 1 - i;
         let a = runs[i];
         let b = runs[k];
@@ -93,9 +95,8 @@ pub(crate) fn swap_ends(runs: &mut [u64], n: u32)
         runs[i] = words::backed(b, behind, top);
         runs[k] = words::backed(a, next, top);
         behind = b;
-        i += 1;
     }
-    if i + i < m {
-        runs[i] = words::backed(runs[i], behind, top);
+    if middle + middle < m {
+        runs[middle] = words::backed(runs[middle], behind, top);
     }
 }
