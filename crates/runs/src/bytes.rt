@@ -21,11 +21,10 @@ fn put_word(out: &mut [u8], at: usize, w: u64)
 }
 
 // How many bytes `count` runs take.
-fn bytes_for(count: usize) -> usize
-    requires { count < 4294967296 }
+fn bytes_for(count: u32) -> usize
     ensures { (result ≡ length (prefix_of count) + 8 * count) × (length (prefix_of count) ≤ 5) }
 {
-    codec::prefix::varint_len(count as u32) + 8 * count
+    codec::prefix::varint_len(count) + 8 * count as usize
 }
 
 // The runs that the iterator gives, eight bytes each, to the front of `out`.
@@ -39,16 +38,15 @@ fn fill_bytes<I: Iterator<Item = u64>>(runs: I, out: &mut [u8])
 }
 
 // The `count` runs that the iterator gives, as bytes to the front of `out`.
-fn write<I: Iterator<Item = u64>>(count: usize, runs: I, out: &mut [u8]) -> Result<usize, Refusal>
-    requires yields { YieldsUpTo I.can_next I.next_gives I.remaining runs count }
-    requires counted { count < 4294967296 }
+fn write<I: Iterator<Item = u64>>(count: u32, runs: I, out: &mut [u8]) -> Result<usize, Refusal>
+    requires { YieldsUpTo I.can_next I.next_gives I.remaining runs count }
     ensures { (all : List ℕ) → YieldsAll I.next_gives runs all → length all ≡ count → (of_written result, out.new) ≡ write_runs all out.old }
 {
     let total = bytes_for(count);
     if out.len() < total {
         return Err(Refusal::Space);
     }
-    let p = codec::prefix::write_varint(count as u32, out)?;
+    let p = codec::prefix::write_varint(count, out)?;
     fill_bytes(runs, &mut out[p..]);
     Ok(total)
 }
@@ -57,10 +55,10 @@ fn write<I: Iterator<Item = u64>>(count: usize, runs: I, out: &mut [u8]) -> Resu
 pub fn write_unitig_color_runs(runs: &[u64], out: &mut [u8]) -> Result<usize, Refusal>
     ensures { (of_written result, out.new) ≡ write_runs runs.now out.old }
 {
-    if 4294967295 < runs.len() {
+    let Ok(count) = u32::try_from(runs.len()) else {
         return Err(Refusal::Runs);
-    }
-    write(runs.len(), runs.iter().copied(), out)
+    };
+    write(count, runs.iter().copied(), out)
 }
 
 // The list, reversed first where wished, turned left by pivot mod n, as bytes to the front of `out`. The turned list stands nowhere else.
@@ -75,7 +73,7 @@ pub fn write_rotated_runs(
 {
     orders::check_steady(runs, n)?;
     let cycle = rotate::turned(Oriented { runs, n, reversed }, pivot);
-    let count = rotate::count(cycle);
+    let count = rotate::count(cycle) as u32;
     write(count, cycle, out)
 }
 

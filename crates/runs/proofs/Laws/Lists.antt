@@ -74,22 +74,3 @@ unfolding over
 fill_end xs from out i e f =
     let h : length xs ≤ i = omega arith in
     sym (take-append-drop i out) ∙ ap₂ (λ (a b : List ℕ). a ++ b) (f.done ∙ take_all i xs h) (f.kept ∙ ap (λ (k : ℕ). drop k from) e)
-
--- the rest of a list from place i on
-pub drop_head : {A : Type 0} (xs : List A) (i : ℕ) (y z : A) (ys : List A) → drop i xs ≡ y ∷ ys → (i < length xs) × (y ≡ get_or xs i z) × (drop (i + 1) xs ≡ ys)
-drop_head {A = A} xs i y z ys e = (inside, heads same, ap (λ (k : ℕ). drop k xs) (add-one i) ∙ rest)
-  where
-    inside : i < length xs
-    inside = omega (arith, length-drop i xs, ap length e)
-
-    same : get_or xs i z ∷ drop (suc i) xs ≡ y ∷ ys
-    same = sym (drop-cons xs i z inside) ∙ e
-
-    heads : get_or xs i z ∷ drop (suc i) xs ≡ y ∷ ys → y ≡ get_or xs i z
-    heads q = cc
-
-    rest : drop (suc i) xs ≡ ys
-    rest = tails same
-      where
-        tails : get_or xs i z ∷ drop (suc i) xs ≡ y ∷ ys → drop (suc i) xs ≡ ys
-        tails q = cc

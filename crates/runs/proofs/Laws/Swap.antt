@@ -4,31 +4,16 @@ use mathlib.Core.Path.{◌≡◌, refl, sym, ap, ap₂, ◌∙◌, subst}
 use mathlib.Core.List.{List}
 use native.Mathlib.Omega.{arith}
 use native.Mathlib.Decide.{dec_lt}
-use lib.ListN.{length, get_or, set, length-set, drop_of_length-le}
+use lib.ListN.{length, get_or, set, length-set}
 use lib.Seq.{get_or-set_same, get_or-set_other, ext_get_or}
 use Rattle.runs.specs.Words.{offset, coordinate, pack}
-use Rattle.runs.specs.Colours.{next, end_at}
+use Rattle.runs.specs.Colours.{end_at}
 use Rattle.runs.specs.Inside.Lists.{Taken}
 use Rattle.runs.specs.Reverse.{reverse_runs}
 use Rattle.runs.specs.Inside.Swap.{Swapped, Backed, FourFit, backed, put_four}
 use Rattle.runs.specs.declared.swap.Four.{Four}
 use Rattle.runs.proofs.Laws.Orders.{run_begins, end_le, offset_le}
 use Rattle.runs.proofs.Laws.Reverse.{length_reversed, reversed_at}
-
-swap_none : (n : ℕ) (ws : List ℕ) → Swapped n ws ws n 0
-swap_none n ws =
-    record {
-      long = refl;
-      half = omega arith;
-      low = λ k h. absurd (omega arith);
-      high = λ k h g. absurd (omega arith);
-      mid = λ k h g. refl;
-      tails = sym (ap (next n) (drop_of_length-le ws {i = suc (length ws - 1 - 0)} (omega arith)));
-    }
-
--- n itself is a word that begins at n
-pub swap_first : (n : ℕ) (ws : List ℕ) → n < 16777216 → Swapped n ws ws (offset n) 0
-swap_first n ws h = let e : n ≡ offset n = omega arith in subst (λ (t : ℕ). Swapped n ws ws t 0) e (swap_none n ws)
 
 module _ (n : ℕ) (ws xs : List ℕ) (tail i : ℕ) (s : Swapped n ws xs tail i) where
   pub swap_end : length ws ≤ i + i → xs ≡ reverse_runs n ws
@@ -107,9 +92,6 @@ swap_step n ws xs tail i m e s x y t =
     (λ two a b c. swap_more n ws xs tail i s x a (omega arith) y b two t c)
 
 -- ---- four runs of each end
-
-pub four_less : (m i : ℕ) → i + i + 8 ≤ m → m - (i + 4) < m - i
-four_less m i h = omega arith
 
 -- what stands where after four were put from place p on
 module _ (xs : List ℕ) (p : ℕ) (f : Four) where

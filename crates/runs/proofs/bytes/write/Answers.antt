@@ -7,7 +7,7 @@ use Rattle.runs.proofs.bytes.write.Goals as goal
 
 pub returns-then-out-total : goal.returns-then-out-total
 returns-then-out-total g c = λ all e l.
-    write_3 all c.args.out.now _ (omega (arith, c.requires.counted)) (c.bytes_for-total.ensures.0 ∙ ap (λ (k : ℕ). length (prefix_of k) + 8 * k) (sym l)) c.if-out-total.true
+    write_3 all c.args.out.now _ (omega (arith, c.ranges.count)) (c.bytes_for-total.ensures.0 ∙ ap (λ (k : ℕ). length (prefix_of k) + 8 * k) (sym l)) c.if-out-total.true
 
 pub returns-in_err-p : goal.returns-in_err-p
 returns-in_err-p g c = λ all e l.
@@ -36,7 +36,7 @@ fill_bytes-requires g c =
     let w = counted c.args.count (Ok c.in_ok-p.p) c.args.out.now _ fits c.in_ok-p.ensures in
     let p : c.in_ok-p.p ≡ length (prefix_of c.args.count) = cc in
     let space = room c.args.count c.args.out.now c.in_ok-p.p _ p w.1 (omega (arith, p, c.bytes_for-total.ensures.0, c.if-out-total.false)) in
-    let given = c.requires.yields in
+    let given = c.requires in
     record { asked = given.asked; ends = (given.ends.0, omega (arith, given.ends.1, space)); all = given.all; gives = given.gives; few = omega (arith, given.few, space) }
 
 pub returns : goal.returns
@@ -44,4 +44,4 @@ returns g c = λ all e l.
     let fits : length (prefix_of c.args.count) ≤ length c.args.out.now = omega (arith, c.bytes_for-total.ensures.0, c.if-out-total.false) in
     let w = counted c.args.count (Ok c.in_ok-p.p) c.args.out.now _ fits c.in_ok-p.ensures in
     let p : c.in_ok-p.p ≡ length (prefix_of c.args.count) = cc in
-    write_done all c.args.out.now _ _ (omega (arith, c.requires.counted)) (c.bytes_for-total.ensures.0 ∙ ap (λ (k : ℕ). length (prefix_of k) + 8 * k) (sym l)) c.if-out-total.false (wrote c.args.count c.args.out.now c.in_ok-p.p _ p w.1 all l _ (c.fill_bytes.ensures all e))
+    write_done all c.args.out.now _ _ (omega (arith, c.ranges.count)) (c.bytes_for-total.ensures.0 ∙ ap (λ (k : ℕ). length (prefix_of k) + 8 * k) (sym l)) c.if-out-total.false (wrote c.args.count c.args.out.now c.in_ok-p.p _ p w.1 all l _ (c.fill_bytes.ensures all e))

@@ -13,13 +13,13 @@ returns-in_err-check_steady c =
     let p = err_from_is_err_and c.from_residual.result c.from_residual.ensures.1 in
     rw (p.1, p.2) (rotated_refused _ _ _ _ _ _ c.in_err-check_steady.ensures)
 
-pub write-requires-clause-yields : goal.write-requires-clause-yields
-write-requires-clause-yields c =
+pub write-requires : goal.write-requires
+write-requires c =
     let all = ahead c.turned-cycle.result in
     record { asked = tt; ends = (tt, omega (arith, c.count-count.ensures)); all = all; gives = YieldsList-from_first (λ x. x) ahead all refl; few = omega (arith, c.count-count.ensures) }
 
-pub write-requires-clause-counted : goal.write-requires-clause-counted
-write-requires-clause-counted c =
+pub overflow_cast-count : goal.overflow_cast-count
+overflow_cast-count c =
     let t = c.in_ok-check_steady.ensures in
     omega (arith, c.count-count.ensures, ap length c.turned-cycle.ensures, rotate_few c.args.n c.args.pivot c.args.reversed c.args.runs.now t, t.small)
 

@@ -1,5 +1,5 @@
 -- `runs::swap::swap_ends` meets its contract.
-use Rattle.std.proofs.Common.{ℕ, ◌≡◌, ◌+◌, ◌-◌, ◌/◌, ◌<◌, ◌≤◌, length, get_or, refl, sym, ap, ap₂, subst, ◌∙◌, arith}
+use Rattle.std.proofs.Common.{ℕ, ◌≡◌, ◌+◌, ◌-◌, ◌/◌, length, get_or, refl, ap, ap₂, ◌∙◌, arith}
 use Rattle.runs.specs.Words.{offset, coordinate, pack}
 use Rattle.runs.proofs.Laws.Orders.{end_le, offset_le}
 use Rattle.runs.proofs.Laws.Swap.{swap_end, swap_mid, swap_step}

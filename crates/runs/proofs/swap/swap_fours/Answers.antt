@@ -1,8 +1,8 @@
 -- `runs::swap::swap_fours` meets its contract.
-use Rattle.std.proofs.Common.{ℕ, ◌≡◌, ◌+◌, ◌-◌, ◌*◌, ◌<◌, ◌≤◌, List, length, get_or, sym, ap, subst, ◌∙◌, arith}
+use Rattle.std.proofs.Common.{ℕ, ◌≡◌, ◌+◌, ◌-◌, ◌*◌, List, length, get_or, sym, ap, subst, ◌∙◌, arith}
 use Rattle.runs.specs.Words.{offset}
 use Rattle.runs.specs.Inside.Swap.{Swapped, Backed, put_four}
-use Rattle.runs.proofs.Laws.Swap.{low_within, high_within, length_four, swap_four}
+use Rattle.runs.proofs.Laws.Swap.{low_within, high_within, swap_four}
 use Rattle.runs.proofs.swap.swap_fours.Goals as goal
 
 pub four_back-low-requires : goal.four_back-low-requires

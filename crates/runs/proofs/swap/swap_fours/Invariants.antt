@@ -1,5 +1,5 @@
 -- `runs::swap::swap_fours` meets its contract.
-use Rattle.std.proofs.Common.{◌≡◌, ◌*◌}
+use Rattle.std.proofs.Common.{◌*◌}
 use Rattle.runs.specs.Words.{offset}
 use Rattle.runs.specs.Inside.Swap.{Swapped}
 use Rattle.runs.proofs.swap.swap_fours.Given as goal
