@@ -4,19 +4,17 @@ ghost use Rattle.codec.specs.Records.{write_record, read_into};
 ghost use Rattle.codec.specs.Index.{make_index};
 ghost use Rattle.capi.specs.Exports.{plain, one, two};
 
-use base::{Given, Made, Written};
+use crate::answers::code_of;
 
 // The record of a set to the front of `out`; `written` bytes.
 pub fn rf_write_record(n: u32, ids: &[u32], out: &mut [u8], written: &mut u64) -> u32
     ensures { (result, written.new, out.new) ≡ one (write_record n ids.now out.old) written.old }
 {
-    match codec::records::write_color_record(n, ids, out) {
-        Written::Done(count) => {
-            *written = count as u64;
-            0
-        }
-        Written::Refused(r) => base::number_of(r),
+    let answer = codec::records::write_color_record(n, ids, out);
+    if let Ok(len) = answer {
+        *written = len as u64;
     }
+    code_of(answer)
 }
 
 // The set at the front of `input` to the front of `ids`; `given` ids, from `taken` bytes.
@@ -29,22 +27,17 @@ pub fn rf_read_record(
 ) -> u32
     ensures { (result, given.new, taken.new, ids.new) ≡ two (read_into n input.now ids.old) given.old taken.old }
 {
-    match codec::records::read_color_record(n, input, ids) {
-        Given::Done { items, bytes } => {
-            *given = items as u64;
-            *taken = bytes as u64;
-            0
-        }
-        Given::Refused(r) => base::number_of(r),
+    let answer = codec::records::read_color_record(n, input, ids);
+    if let Ok(read) = answer {
+        *given = read.items as u64;
+        *taken = read.bytes as u64;
     }
+    code_of(answer)
 }
 
 // Where each of the first `count` records begins, and where the last one ends.
 pub fn rf_make_index(bytes: &[u8], count: u64, out: &mut [u64]) -> u32
     ensures { (result, out.new) ≡ plain (make_index count bytes.now out.old) }
 {
-    match codec::index::index_worker(bytes, count as usize, out) {
-        Made::Done => 0,
-        Made::Refused(r) => base::number_of(r),
-    }
+    code_of(codec::index::index_worker(bytes, count as usize, out))
 }

@@ -7,33 +7,28 @@ ghost use Rattle.runs.specs.Rotate.{rotate_into};
 ghost use Rattle.runs.specs.Bytes.{write_runs, read_runs_into};
 ghost use Rattle.capi.specs.Exports.{one, two};
 
-use base::{Given, Written};
-use runs::append::Appended;
+use crate::answers::code_of;
 
 // The list of the same colours from the other end; `count` runs.
 pub fn rf_reverse_runs(runs: &[u64], n: u32, out: &mut [u64], count: &mut u64) -> u32
     ensures { (result, count.new, out.new) ≡ one (reverse_into runs.now n out.old) count.old }
 {
-    match runs::reverse::reverse_color_runs(runs, n, out) {
-        Written::Done(k) => {
-            *count = k as u64;
-            0
-        }
-        Written::Refused(r) => base::number_of(r),
+    let answer = runs::reverse::reverse_color_runs(runs, n, out);
+    if let Ok(len) = answer {
+        *count = len as u64;
     }
+    code_of(answer)
 }
 
 // The same in the place of the list itself.
 pub fn rf_reverse_runs_in_place(runs: &mut [u64], n: u32, count: &mut u64) -> u32
     ensures { (result, count.new, runs.new) ≡ one (reverse_in_place runs.old n) count.old }
 {
-    match runs::reverse::reverse_color_runs_in_place(runs, n) {
-        Written::Done(k) => {
-            *count = k as u64;
-            0
-        }
-        Written::Refused(r) => base::number_of(r),
+    let answer = runs::reverse::reverse_color_runs_in_place(runs, n);
+    if let Ok(len) = answer {
+        *count = len as u64;
     }
+    code_of(answer)
 }
 
 // A piece behind the `used` runs of an output of `out_count` vertices; the piece's first vertex is the
@@ -50,21 +45,19 @@ pub fn rf_append_runs(
 ) -> u32
     ensures { (result, count.new, vertices.new, out.new) ≡ two (append_into out.old used out_count piece.now piece_count reverse) count.old vertices.old }
 {
-    match runs::append::append_color_runs(
+    let answer = runs::append::append_color_runs(
         out,
         used as usize,
         out_count,
         piece,
         piece_count,
         reverse,
-    ) {
-        Appended::Done { runs, vertices: n } => {
-            *count = runs as u64;
-            *vertices = n as u64;
-            0
-        }
-        Appended::Refused(r) => base::number_of(r),
+    );
+    if let Ok(appended) = answer {
+        *count = appended.runs as u64;
+        *vertices = u64::from(appended.vertices);
     }
+    code_of(answer)
 }
 
 // A cycle, reversed first where wished, turned left by pivot mod n, equal neighbours merged; `count` runs.
@@ -78,38 +71,32 @@ pub fn rf_rotate_runs(
 ) -> u32
     ensures { (result, count.new, out.new) ≡ one (rotate_into runs.now n pivot reverse out.old) count.old }
 {
-    match runs::rotate::rotate_cycle_color_runs(runs, n, pivot, reverse, out) {
-        Written::Done(k) => {
-            *count = k as u64;
-            0
-        }
-        Written::Refused(r) => base::number_of(r),
+    let answer = runs::rotate::rotate_cycle_color_runs(runs, n, pivot, reverse, out);
+    if let Ok(len) = answer {
+        *count = len as u64;
     }
+    code_of(answer)
 }
 
 // The run bytes of a list; `written` bytes.
 pub fn rf_write_runs(runs: &[u64], out: &mut [u8], written: &mut u64) -> u32
     ensures { (result, written.new, out.new) ≡ one (write_runs runs.now out.old) written.old }
 {
-    match runs::bytes::write_unitig_color_runs(runs, out) {
-        Written::Done(k) => {
-            *written = k as u64;
-            0
-        }
-        Written::Refused(r) => base::number_of(r),
+    let answer = runs::bytes::write_unitig_color_runs(runs, out);
+    if let Ok(len) = answer {
+        *written = len as u64;
     }
+    code_of(answer)
 }
 
 // The list whose run bytes stand at the front; `given` runs, from `taken` bytes.
 pub fn rf_read_runs(bytes: &[u8], out: &mut [u64], given: &mut u64, taken: &mut u64) -> u32
     ensures { (result, given.new, taken.new, out.new) ≡ two (read_runs_into bytes.now out.old) given.old taken.old }
 {
-    match runs::bytes::read_unitig_color_runs(bytes, out) {
-        Given::Done { items, bytes: size } => {
-            *given = items as u64;
-            *taken = size as u64;
-            0
-        }
-        Given::Refused(r) => base::number_of(r),
+    let answer = runs::bytes::read_unitig_color_runs(bytes, out);
+    if let Ok(read) = answer {
+        *given = read.items as u64;
+        *taken = read.bytes as u64;
     }
+    code_of(answer)
 }
