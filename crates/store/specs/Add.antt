@@ -1,5 +1,5 @@
 -- "What each operation turns down" of 01, with request F-1: add. 12, 2, 3; the record goes behind the used bytes, with one index entry.
-use Rattle.std.specs.Prelude.{ℕ, ◌+◌, Bool, true, false, not, ◌||◌, List, [], ◌∷◌, length, set, ltb}
+use Rattle.std.specs.Prelude.{ℕ, ◌+◌, Bool, true, false, not, ◌||◌, List, [], ◌∷◌, length, set, ltb, Ok, Err}
 use Rattle.base.specs.Answers.{Answer, done, refused}
 use Rattle.base.specs.Tests.{◌when◌else◌}
 use Rattle.base.specs.declared.Refusal.TheVariants.{Ids, Opened, Space}
@@ -8,10 +8,8 @@ use Rattle.codec.specs.Sets.{within}
 use Rattle.runs.specs.Words.{coordinate_of}
 use Rattle.store.specs.Altered.{altered}
 use Rattle.store.specs.Filed.{reads_as, set_at}
-use Rattle.store.specs.Numbered.{by_gate, numbered}
+use Rattle.store.specs.Numbered.{Test, by_gate, numbered}
 use Rattle.store.specs.State.{Bufs, Outcome, after, lengths_of, put, with_parts, with_records}
-use Rattle.store.specs.declared.numbered.Gate.{Gate}
-use Rattle.store.specs.declared.numbered.Gate.TheVariants.{Go, Refuse}
 use Rattle.store.specs.declared.state.Current.{Current}
 use Rattle.store.specs.declared.state.Current.TheVariants.{Nothing, Open}
 use Rattle.store.specs.declared.state.Cell.{Cell}
@@ -27,15 +25,15 @@ unitig_open (Open n) = true
 unfoldable pub no_space : Cell → ℕ → Bool
 no_space c len = ltb c.records.length (c.records.used + len) || ltb c.index (c.sets + 2)
 
-unfoldable pub add_test : ℕ → Cell → List ℕ → Gate
+unfoldable pub add_test : ℕ → Cell → List ℕ → Test
 add_test N c ids =
     -- 12, a unitig is open
-    Refuse Opened when unitig_open c.current else
+    Err Opened when unitig_open c.current else
     -- 2, ids not strictly ascending or one not below N; no ids are a set (request F-1)
-    Refuse Ids when not (within 0 N ids) else
+    Err Ids when not (within 0 N ids) else
     -- 3, the record doesn't fit the rest of the file, or no index entry is free
-    Refuse Space when no_space c (length (record_of N ids)) else
-    Go
+    Err Space when no_space c (length (record_of N ids)) else
+    Ok tt
 
 -- the last call was an add of these ids: they are compared with the record that its answer names
 unfoldable pub same_add : ℕ → Cell → (file index : List ℕ) → Last → List ℕ → Bool

@@ -1,5 +1,5 @@
 -- "What each operation turns down" of 01: close. 13, 5, 3; the run bytes go behind the used ones, with two numbers in the table.
-use Rattle.std.specs.Prelude.{ℕ, ◌+◌, ◌*◌, Bool, true, false, not, ◌||◌, List, [], ◌∷◌, length, set, take, ltb, eqb}
+use Rattle.std.specs.Prelude.{ℕ, ◌+◌, ◌*◌, Bool, true, false, not, ◌||◌, List, [], ◌∷◌, length, set, take, ltb, eqb, Ok, Err}
 use Rattle.base.specs.Answers.{Answer, done, refused}
 use Rattle.base.specs.Tests.{◌when◌else◌}
 use Rattle.base.specs.declared.Refusal.TheVariants.{Damaged, Space, Unopened}
@@ -7,10 +7,8 @@ use Rattle.runs.specs.Bytes.{run_bytes}
 use Rattle.runs.specs.Orders.{sharp}
 use Rattle.runs.specs.Rotate.{rotate_runs}
 use Rattle.store.specs.Altered.{altered}
-use Rattle.store.specs.Numbered.{by_gate, numbered}
+use Rattle.store.specs.Numbered.{Test, by_gate, numbered}
 use Rattle.store.specs.State.{Bufs, Outcome, after, lengths_of, put, shared_bufs, with_parts, with_unitig}
-use Rattle.store.specs.declared.numbered.Gate.{Gate}
-use Rattle.store.specs.declared.numbered.Gate.TheVariants.{Go, Refuse}
 use Rattle.store.specs.declared.state.Current.{Current}
 use Rattle.store.specs.declared.state.Current.TheVariants.{Nothing, Open}
 use Rattle.store.specs.declared.state.Cell.{Cell}
@@ -54,23 +52,23 @@ count_of (Open n) = n
 
 -- ---- tests
 
-unfoldable pub close_open : Current → List ℕ → Gate → Gate
+unfoldable pub close_open : Current → List ℕ → Test → Test
 -- 13, none open
-close_open Nothing old rest = Refuse Unopened
+close_open Nothing old rest = Err Unopened
 close_open (Open n) old rest =
     -- 5, open runs not sharp for the open count (altered buffers only)
-    Refuse Damaged when not (sharp n old) else
+    Err Damaged when not (sharp n old) else
     rest
 
 -- its run bytes, so many, or its two table numbers don't fit
 unfoldable pub no_close_space : Shared → ℕ → Bool
 no_close_space s len = ltb s.runs.length (s.runs.used + len) || ltb s.table (2 * s.unitigs + 2)
 
-unfoldable pub close_test : Cell → Shared → (opened : List ℕ) → Way → Gate
+unfoldable pub close_test : Cell → Shared → (opened : List ℕ) → Way → Test
 close_test c s opened way =
     close_open c.current (take c.opened.used opened)
     -- 3, its run bytes or its two table numbers don't fit
-    (Refuse Space when no_close_space s (length (filed_bytes way c.current (take c.opened.used opened))) else Go)
+    (Err Space when no_close_space s (length (filed_bytes way c.current (take c.opened.used opened))) else Ok tt)
 
 -- ---- what it leaves
 

@@ -1,6 +1,7 @@
 -- What serves the functions inside the crate and their proofs.
 pub mod Counts
 pub mod Places
+pub mod Lent
 pub mod Fits
 pub mod Closing
 pub mod Showing

@@ -1,5 +1,5 @@
 -- "What each operation turns down" of 01: join. 7, 6, 9, 5, 8, 3; the held piece as sent and the new open runs.
-use Rattle.std.specs.Prelude.{ℕ, ◌+◌, ◌-◌, Bool, true, false, not, ◌||◌, ◌&&◌, List, [], ◌∷◌, length, take, ltb, eqb}
+use Rattle.std.specs.Prelude.{ℕ, ◌+◌, ◌-◌, Bool, true, false, not, ◌||◌, ◌&&◌, List, [], ◌∷◌, length, take, ltb, eqb, Ok, Err}
 use Rattle.base.specs.Answers.{Answer, done, refused}
 use Rattle.base.specs.Parts.{over}
 use Rattle.base.specs.Tests.{◌when◌else◌}
@@ -11,10 +11,8 @@ use Rattle.runs.specs.Orders.{most_vertices, sharp}
 use Rattle.runs.specs.Reverse.{oriented}
 use Rattle.runs.specs.Words.{coordinate, place_of, worker_of}
 use Rattle.store.specs.Altered.{altered}
-use Rattle.store.specs.Numbered.{by_gate, numbered}
+use Rattle.store.specs.Numbered.{Test, by_gate, numbered}
 use Rattle.store.specs.State.{Bufs, Outcome, after, lengths_of, put, with_opened, with_parts}
-use Rattle.store.specs.declared.numbered.Gate.{Gate}
-use Rattle.store.specs.declared.numbered.Gate.TheVariants.{Go, Refuse}
 use Rattle.store.specs.declared.state.Current.{Current}
 use Rattle.store.specs.declared.state.Current.TheVariants.{Nothing, Open}
 use Rattle.store.specs.declared.state.Cell.{Cell}
@@ -58,29 +56,29 @@ unfoldable pub all_named : ℕ → ℕ → List ℕ → Bool
 all_named worker sets [] = true
 all_named worker sets (r ∷ rs) = eqb (worker_of (coordinate r)) worker && ltb (place_of (coordinate r)) sets && all_named worker sets rs
 
-unfoldable pub open_test : Current → List ℕ → List ℕ → Gate → Gate
+unfoldable pub open_test : Current → List ℕ → List ℕ → Test → Test
 open_test Nothing old piece rest = rest
 open_test (Open m) old piece rest =
     -- 5, open runs not sharp for the open count (altered buffers only)
-    Refuse Damaged when not (sharp m old) else
+    Err Damaged when not (sharp m old) else
     -- 8, last open coordinate differs from the oriented piece's first
-    Refuse Junction when not (eqb (last_coord old) (first_coord piece)) else
+    Err Junction when not (eqb (last_coord old) (first_coord piece)) else
     rest
 
 -- 3, open runs or held piece too short, with so many new open runs and so many runs to hold
-unfoldable pub open_space : Cell → ℕ → ℕ → Gate
+unfoldable pub open_space : Cell → ℕ → ℕ → Test
 open_space c new held =
-    Refuse Space when ltb c.opened.length (open_at c.current c.opened.used + new) || ltb c.held.length held else
-    Go
+    Err Space when ltb c.opened.length (open_at c.current c.opened.used + new) || ltb c.held.length held else
+    Ok tt
 
-unfoldable pub join_test : Cell → (opened : List ℕ) → ℕ → Bool → List ℕ → Gate
+unfoldable pub join_test : Cell → (opened : List ℕ) → ℕ → Bool → List ℕ → Test
 join_test c opened n reversed piece =
     -- 7, n is 0 or new count above 16,777,215
-    Refuse Vertices when eqb n 0 || ltb most_vertices (open_count c.current n) else
+    Err Vertices when eqb n 0 || ltb most_vertices (open_count c.current n) else
     -- 6, not sharp
-    Refuse Runs when not (sharp n piece) else
+    Err Runs when not (sharp n piece) else
     -- 9, a coordinate with another worker or an index not below S's length
-    Refuse Coordinate when not (all_named c.worker c.sets piece) else
+    Err Coordinate when not (all_named c.worker c.sets piece) else
     -- 5, 8, 3
     open_test c.current (take c.opened.used opened) (oriented reversed n piece)
     (open_space c (length (open_new c.current (take c.opened.used opened) (oriented reversed n piece))) (length piece))

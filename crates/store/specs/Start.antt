@@ -1,16 +1,15 @@
 -- "What each operation turns down" of 01: start. 1, 3, or the state of a fresh store.
-use Rattle.std.specs.Prelude.{ℕ, Bool, ◌||◌, [], ◌∷◌, set, ltb, eqb}
+use Rattle.std.specs.Prelude.{ℕ, Bool, ◌||◌, [], ◌∷◌, set, ltb, eqb, Err}
 use Rattle.base.specs.Tests.{◌when◌else◌, any_of}
 use Rattle.base.specs.Answers.{refused, done}
 use Rattle.base.specs.declared.Refusal.{Refusal}
-use Rattle.base.specs.declared.Made.TheVariants as made
 use Rattle.codec.specs.Records.{bad_colors}
 use Rattle.store.specs.Plain.{CellLengths, SharedLengths, Lengths}
 use Rattle.store.specs.State.{Bufs, Outcome, extent, lengths, lengths_of, with_records}
 use Rattle.store.specs.declared.state.Cell.{Cell}
 use Rattle.store.specs.declared.state.Shared.{Shared}
 use Rattle.store.specs.declared.state.Store.{Store}
-use Rattle.store.specs.declared.state.Started.{Started}
+use Rattle.store.specs.declared.state.Told.{Told}
 use Rattle.store.specs.declared.state.Current.TheVariants.{Nothing}
 use Rattle.store.specs.declared.state.Last.TheVariants.{Fresh}
 
@@ -57,8 +56,8 @@ fresh N W l = record { colors = N; cell = fresh_cell W l.cell; shared = fresh_sh
 abbrev pub no_store : Store
 no_store = fresh 0 0 (lengths 0 0 0 0 0 0)
 
-abbrev pub unstarted : Refusal → Started
-unstarted r = record { store = no_store; answer = made.Refused r }
+abbrev pub unstarted : Refusal → Told Store (Unit {0})
+unstarted r = record { state = no_store; answer = Err r }
 
 -- index entry 0 becomes 0
 abbrev pub zeroed : Bufs → Bufs

@@ -1,7 +1,8 @@
 -- Section 7 of 01: the state and the buffers. What is lent to a call, what it answers, and the state after an accepted call.
-use Rattle.std.specs.Prelude.{ℕ, List, [], ◌∷◌, ◌++◌, length, take, drop}
+use Rattle.std.specs.Prelude.{ℕ, List, [], ◌∷◌, ◌++◌, length, take, drop, Result, Ok, Err}
 use Rattle.base.specs.Answers.{Answer, refused, done, number_of}
 use Rattle.base.specs.Parts.{over}
+use Rattle.base.specs.declared.Refusal.{Refusal}
 use Rattle.store.specs.Plain.{CellLengths, SharedLengths, Lengths}
 use Rattle.store.specs.declared.state.Extent.{Extent}
 use Rattle.store.specs.declared.state.Current.{Current}
@@ -9,11 +10,6 @@ use Rattle.store.specs.declared.state.Last.{Last}
 use Rattle.store.specs.declared.state.Cell.{Cell}
 use Rattle.store.specs.declared.state.Shared.{Shared}
 use Rattle.store.specs.declared.state.Store.{Store}
-use Rattle.store.specs.declared.state.Told.{Told}
-use Rattle.store.specs.declared.state.CellTold.{CellTold}
-use Rattle.store.specs.declared.state.ClosedTold.{ClosedTold}
-use Rattle.store.specs.declared.state.Answer as code
-use Rattle.store.specs.declared.state.Answer.TheVariants.{Done, Refused}
 
 -- ---- what is lent to a call
 
@@ -75,9 +71,14 @@ put at new old = take at old ++ over new (drop at old)
 -- ---- what a call answers
 
 -- in the numbers of 01
-abbrev pub of_answer : code.Answer → Answer
-of_answer (Done a) = done (a ∷ [])
-of_answer (Refused r) = refused (number_of r)
+abbrev pub of_answer : Result ℕ Refusal → Answer
+of_answer (Ok a) = done (a ∷ [])
+of_answer (Err r) = refused (number_of r)
+
+-- of a start: nothing more than that it was done
+abbrev pub of_started : Result (Unit {0}) Refusal → Answer
+of_started (Ok _) = done []
+of_started (Err r) = refused (number_of r)
 
 -- the answer of a call, and the state and the buffers that it leaves
 abbrev pub Outcome : Type 0
@@ -110,9 +111,3 @@ with_unitig s used unitigs = record { runs = extent s.runs.length used; table = 
 
 abbrev pub with_parts : Store → Cell → Shared → Store
 with_parts s c sh = record { colors = s.colors; cell = c; shared = sh }
-
-abbrev pub in_store : Store → CellTold → Told
-in_store s t = record { store = with_parts s t.cell s.shared; answer = t.answer }
-
-abbrev pub in_store_closed : Store → ClosedTold → Told
-in_store_closed s t = record { store = with_parts s t.cell t.shared; answer = t.answer }

@@ -6,78 +6,79 @@ ghost use Rattle.store.specs.Numbered.{numbered};
 ghost use Rattle.store.specs.Add.{unitig_open, no_space, same_add, add_test, add_filed, add_cell, add_step};
 ghost use Rattle.store.specs.Inside.Fits.{AddFits, AddReady};
 
-use crate::numbered::{Gate, Sequence};
-use crate::state::{Answer, Cell, CellTold, Current, Last, Store, Told};
+use crate::lengths::Lengths;
+use crate::numbered::Sequence;
+use crate::state::{Cell, Current, Extent, Last, Store, Told};
 use crate::{counts, numbered};
 use base::{Refusal, Written};
 
 impl Cell {
     // Whether the last call was an add of these ids.
+    #[tactic(auto, unfolding(crate::specs::Add::same_add))]
     fn is_last_add(self, colors: u32, ids: &[u32], records: &[u8], index: &[u64]) -> bool
         requires { AddFits colors self (length records.now) (length index.now) }
         ensures { result ≡ same_add colors self records.now index.now self.last ids.now }
     {
-        let last = self.last;
-        match last {
-            Last::Fresh => false,
-            Last::Add => self.names_set(colors, self.answer, ids, records, index),
-            Last::Join { n: _, reversed: _ } => false,
-            Last::Close { way: _ } => false,
-        }
+        self.last == Last::Add && self.names_set(colors, self.answer, ids, records, index)
     }
 
+    #[tactic(auto, unfolding(crate::specs::Add::unitig_open))]
     fn is_open(self) -> bool
         ensures { result ≡ unitig_open self.current }
     {
-        let current = self.current;
-        match current {
-            Current::Nothing => false,
-            Current::Open(_) => true,
-        }
+        self.current != Current::Nothing
     }
 
     // Whether a record of so many bytes, or its index entry, doesn't fit.
+    #[tactic(auto, using(base::proofs::Tests::tests), unfolding(crate::specs::Add::no_space))]
     fn no_space(self, len: usize) -> bool
         requires { self.records.used ≤ self.records.length }
         ensures { result ≡ no_space self len }
     {
         let sets = self.sets as usize;
-        if self.records.length - self.records.used < len {
-            return true;
-        }
-        self.index < sets + 2
+        self.records.length - self.records.used < len || self.index < sets + 2
     }
 
     // Refusal 12, a unitig is open; 2, ids that are no set; 3, no space.
-    #[tactic(auto, using(crate::proofs::Laws::Adding::adding_tests), unfolding(crate::specs::Add::add_test))]
-    fn add_test(self, colors: u32, ids: &[u32]) -> Gate
+    #[tactic(auto, using(base::proofs::Tests::tests), unfolding(crate::specs::Add::add_test, codec::specs::Records::record_length))]
+    fn add_test(self, colors: u32, ids: &[u32]) -> Result<(), Refusal>
         requires { (self.records.used ≤ self.records.length) × (bad_colors colors ≡ false) }
         ensures { result ≡ add_test colors self ids.now }
     {
         if self.is_open() {
-            return Gate::Refuse(Refusal::Opened);
+            return Err(Refusal::Opened);
         }
         let Written::Done(len) = codec::records::color_record_len(colors, ids) else {
-            return Gate::Refuse(Refusal::Ids);
+            return Err(Refusal::Ids);
         };
         if self.no_space(len) {
-            return Gate::Refuse(Refusal::Space);
+            return Err(Refusal::Space);
         }
-        Gate::Go
+        Ok(())
     }
 
-    // All tests of an add but 15.
-    fn add_gate(self, colors: u32, number: u32, ids: &[u32], records: &[u8], index: &[u64]) -> Gate
+    // All tests of an add but 15: the answer of the call that it repeats, or none where it is new.
+    #[tactic(auto, unfolding(crate::specs::Numbered::numbered, crate::specs::Numbered::by_sequence, crate::specs::Numbered::tested))]
+    fn add_gate(
+        self,
+        colors: u32,
+        number: u32,
+        ids: &[u32],
+        records: &[u8],
+        index: &[u64],
+    ) -> Result<Option<u64>, Refusal>
         requires { AddFits colors self (length records.now) (length index.now) }
         ensures { result ≡ numbered self number (same_add colors self records.now index.now self.last ids.now) (add_test colors self ids.now) }
     {
-        match self.sequence(number) {
-            Sequence::Out => Gate::Refuse(Refusal::Number),
+        match self.sequence(number)? {
             Sequence::Repeat => numbered::repeated(
                 self.is_last_add(colors, ids, records, index),
                 self.answer,
             ),
-            Sequence::New => self.add_test(colors, ids),
+            Sequence::New => {
+                self.add_test(colors, ids)?;
+                Ok(None)
+            }
         }
     }
 
@@ -89,9 +90,9 @@ impl Cell {
         ids: &[u32],
         records: &mut [u8],
         index: &mut [u64],
-    ) -> CellTold
+    ) -> Told<Cell, u64>
         requires { AddReady colors self ids.now (length records.old) (length index.old) }
-        ensures { (of_answer result.answer, result.cell, records.new, index.new) ≡ add_filed colors self number ids.now records.old index.old }
+        ensures { (of_answer result.answer, result.state, records.new, index.new) ≡ add_filed colors self number ids.now records.old index.old }
     {
         let at = self.records.used;
         let sets = self.sets as usize;
@@ -100,26 +101,28 @@ impl Cell {
             ids,
             &mut records[at..],
         ));
-        index[sets + 1] = (at + len) as u64;
+        let end = at + len;
+        index[sets + 1] = end as u64;
         let coord = runs::words::coordinate_of(self.worker, self.sets);
-        let current = self.current;
-        let cell = self.after(
-            at + len,
-            self.sets + 1,
-            self.opened.used,
-            self.held.used,
-            current,
+        let state = Cell {
+            records: Extent {
+                used: end,
+                ..self.records
+            },
+            sets: self.sets + 1,
             number,
-            Last::Add,
-            coord,
-        );
-        CellTold {
-            cell,
-            answer: Answer::Done(coord),
+            last: Last::Add,
+            answer: coord,
+            ..self
+        };
+        Told {
+            state,
+            answer: Ok(coord),
         }
     }
 
     // A set joins the accepted ones; answers its coordinate. Refusals 10, 11, 12, 2, 3, in this order.
+    #[tactic(auto, unfolding(crate::specs::Add::add_cell, crate::specs::Numbered::by_gate))]
     fn add(
         self,
         colors: u32,
@@ -127,26 +130,27 @@ impl Cell {
         ids: &[u32],
         records: &mut [u8],
         index: &mut [u64],
-    ) -> CellTold
+    ) -> Told<Cell, u64>
         requires { AddFits colors self (length records.old) (length index.old) }
-        ensures { (of_answer result.answer, result.cell, records.new, index.new) ≡ add_cell colors self number ids.now records.old index.old }
+        ensures { (of_answer result.answer, result.state, records.new, index.new) ≡ add_cell colors self number ids.now records.old index.old }
     {
         match self.add_gate(colors, number, ids, records, index) {
-            Gate::Refuse(r) => CellTold {
-                cell: self,
-                answer: Answer::Refused(r),
+            Err(r) => Told {
+                state: self,
+                answer: Err(r),
             },
-            Gate::Again(a) => CellTold {
-                cell: self,
-                answer: Answer::Done(a),
+            Ok(Some(again)) => Told {
+                state: self,
+                answer: Ok(again),
             },
-            Gate::Go => self.file_set(colors, number, ids, records, index),
+            Ok(None) => self.file_set(colors, number, ids, records, index),
         }
     }
 }
 
 impl Store {
     // Refusal 15, altered state or buffers; then the cell's add.
+    #[tactic(auto, using(base::proofs::Tests::tests), unfolding(crate::specs::Add::add_step))]
     pub fn add(
         self,
         number: u32,
@@ -157,24 +161,23 @@ impl Store {
         held: &[u64],
         runs: &[u8],
         table: &[u64],
-    ) -> Told
-        ensures { (of_answer result.answer, result.store, bufs records.new index.new opened.now held.now runs.now table.now)
+    ) -> Told<Store, u64>
+        ensures { (of_answer result.answer, result.state, bufs records.new index.new opened.now held.now runs.now table.now)
             ≡ add_step self (bufs records.old index.old opened.now held.now runs.now table.now) number ids.now }
     {
-        if self.altered(
-            records.len(),
-            index.len(),
-            opened.len(),
-            held.len(),
-            runs.len(),
-            table.len(),
-        ) {
+        if self.altered(Lengths::of(records, index, opened, held, runs, table)) {
             return Told {
-                store: self,
-                answer: Answer::Refused(Refusal::Altered),
+                state: self,
+                answer: Err(Refusal::Altered),
             };
         }
-        let cell = self.cell;
-        self.with_cell(cell.add(self.colors, number, ids, records, index))
+        let told = self.cell.add(self.colors, number, ids, records, index);
+        Told {
+            state: Store {
+                cell: told.state,
+                ..self
+            },
+            answer: told.answer,
+        }
     }
 }

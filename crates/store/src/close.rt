@@ -5,92 +5,75 @@ ghost use Rattle.runs.specs.Orders.{sharp};
 ghost use Rattle.runs.specs.Bytes.{run_bytes};
 ghost use Rattle.store.specs.State.{bufs, of_answer};
 ghost use Rattle.store.specs.Numbered.{numbered};
-ghost use Rattle.store.specs.Close.{same_way, same_close, count_of, filed_runs, close_cell, close_step};
+ghost use Rattle.store.specs.Close.{same_close, count_of, filed_runs, close_cell, close_step};
 ghost use Rattle.store.specs.Inside.Fits.{CloseFits, CloseReady};
 ghost use Rattle.store.specs.Inside.Closing.{table_test, bytes_into, filed_or_full};
 
+use crate::lengths::Lengths;
 use crate::numbered;
-use crate::numbered::{Gate, Sequence};
-use crate::state::{Answer, Cell, ClosedTold, Current, Last, Shared, Store, Told, Way};
+use crate::numbered::Sequence;
+use crate::state::{Cell, Current, Extent, Last, Shared, Store, Told, Way};
 use base::{Refusal, Written};
-
-fn same_way(a: Way, b: Way) -> bool
-    ensures { result ≡ same_way a b }
-{
-    match a {
-        Way::Line => match b {
-            Way::Line => true,
-            Way::Cycle { pivot: _ } => false,
-        },
-        Way::Cycle { pivot: p } => match b {
-            Way::Line => false,
-            Way::Cycle { pivot: q } => p == q,
-        },
-    }
-}
 
 impl Cell {
     // Whether the last call was a close in this way.
+    #[tactic(auto, unfolding(crate::specs::Close::same_close, crate::specs::Close::same_way))]
     fn is_last_close(self, way: Way) -> bool
         ensures { result ≡ same_close self.last way }
     {
-        let last = self.last;
-        match last {
-            Last::Fresh => false,
-            Last::Add => false,
-            Last::Join { n: _, reversed: _ } => false,
-            Last::Close { way: old } => same_way(old, way),
-        }
+        self.last == Last::Close { way }
     }
 
     // How many vertices the open unitig has, or 0.
+    #[tactic(auto, unfolding(crate::specs::Close::count_of))]
     fn vertices(self) -> u32
         ensures { result ≡ count_of self.current }
     {
-        let current = self.current;
-        match current {
+        match self.current {
             Current::Nothing => 0,
             Current::Open(n) => n,
         }
     }
 
-    // Refusal 5, open runs not sharp; 3, no space in the table.
-    fn close_open(self, shared: Shared, n: u32, opened: &[u64]) -> Gate
-        requires { (self.current ≡ Current.Open n) × (self.opened.used ≤ length opened.now) }
-        ensures { result ≡ table_test self shared opened.now }
-    {
-        let end = self.opened.used;
-        let unitigs = shared.unitigs as usize;
-        if !runs::orders::is_sharp(&opened[..end], n) {
-            return Gate::Refuse(Refusal::Damaged);
-        }
-        if shared.table < 2 * unitigs + 2 {
-            return Gate::Refuse(Refusal::Space);
-        }
-        Gate::Go
-    }
-
-    // Refusal 13, none open; then as above.
-    fn close_test(self, shared: Shared, opened: &[u64]) -> Gate
+    // Refusal 13, none open; 5, open runs not sharp; 3, no space in the table.
+    #[tactic(auto, using(base::proofs::Tests::tests), unfolding(crate::specs::Inside::Closing::table_test, crate::specs::Close::close_open))]
+    fn close_test(self, shared: Shared, opened: &[u64]) -> Result<(), Refusal>
         requires { self.opened.used ≤ length opened.now }
         ensures { result ≡ table_test self shared opened.now }
     {
-        let current = self.current;
-        match current {
-            Current::Nothing => Gate::Refuse(Refusal::Unopened),
-            Current::Open(n) => self.close_open(shared, n, opened),
+        let Current::Open(n) = self.current else {
+            return Err(Refusal::Unopened);
+        };
+        let end = self.opened.used;
+        if !runs::orders::is_sharp(&opened[..end], n) {
+            return Err(Refusal::Damaged);
         }
+        let unitigs = shared.unitigs as usize;
+        if shared.table < 2 * unitigs + 2 {
+            return Err(Refusal::Space);
+        }
+        Ok(())
     }
 
-    // The tests of a close, but for 15 and the space of its run bytes.
-    fn close_gate(self, shared: Shared, number: u32, way: Way, opened: &[u64]) -> Gate
+    // The tests of a close, but for 15 and the space of its run bytes: the answer of the call that it repeats, or none where
+    // it is new.
+    #[tactic(auto, unfolding(crate::specs::Numbered::numbered, crate::specs::Numbered::by_sequence, crate::specs::Numbered::tested))]
+    fn close_gate(
+        self,
+        shared: Shared,
+        number: u32,
+        way: Way,
+        opened: &[u64],
+    ) -> Result<Option<u64>, Refusal>
         requires { self.opened.used ≤ length opened.now }
         ensures { result ≡ numbered self number (same_close self.last way) (table_test self shared opened.now) }
     {
-        match self.sequence(number) {
-            Sequence::Out => Gate::Refuse(Refusal::Number),
+        match self.sequence(number)? {
             Sequence::Repeat => numbered::repeated(self.is_last_close(way), self.answer),
-            Sequence::New => self.close_test(shared, opened),
+            Sequence::New => {
+                self.close_test(shared, opened)?;
+                Ok(None)
+            }
         }
     }
 
@@ -121,42 +104,49 @@ impl Cell {
         opened: &[u64],
         runs: &mut [u8],
         table: &mut [u64],
-    ) -> ClosedTold
+    ) -> Told<(Cell, Shared), u64>
         requires { CloseReady self shared opened.now (length runs.old) (length table.old) }
-        ensures { (of_answer result.answer, result.cell, result.shared, runs.new, table.new) ≡ filed_or_full self shared number way opened.now runs.old table.old }
+        ensures { (of_answer result.answer, result.state.0, result.state.1, runs.new, table.new) ≡ filed_or_full self shared number way opened.now runs.old table.old }
     {
         let n = self.vertices();
         let at = shared.runs.used;
         let Written::Done(len) = self.file_runs(way, n, at, opened, runs) else {
-            return ClosedTold {
-                cell: self,
-                shared,
-                answer: Answer::Refused(Refusal::Space),
+            return Told {
+                state: (self, shared),
+                answer: Err(Refusal::Space),
             };
         };
         let unitigs = shared.unitigs as usize;
         table[2 * unitigs] = at as u64;
         table[2 * unitigs + 1] = n as u64;
         let place = shared.unitigs as u64;
-        let cell = self.after(
-            self.records.used,
-            self.sets,
-            0,
-            self.held.used,
-            Current::Nothing,
+        let cell = Cell {
+            opened: Extent {
+                used: 0,
+                ..self.opened
+            },
+            current: Current::Nothing,
             number,
-            Last::Close { way },
-            place,
-        );
-        let closed = shared.with_unitig(at + len, shared.unitigs + 1);
-        ClosedTold {
-            cell,
-            shared: closed,
-            answer: Answer::Done(place),
+            last: Last::Close { way },
+            answer: place,
+            ..self
+        };
+        let closed = Shared {
+            runs: Extent {
+                used: at + len,
+                ..shared.runs
+            },
+            unitigs: shared.unitigs + 1,
+            ..shared
+        };
+        Told {
+            state: (cell, closed),
+            answer: Ok(place),
         }
     }
 
     // The open unitig joins the closed ones; answers its place. Refusals 10, 11, 13, 5, 3, in this order.
+    #[tactic(auto, using(crate::proofs::Laws::Closing::closed_is), unfolding(crate::specs::Numbered::by_gate))]
     fn close(
         self,
         shared: Shared,
@@ -165,28 +155,27 @@ impl Cell {
         opened: &[u64],
         runs: &mut [u8],
         table: &mut [u64],
-    ) -> ClosedTold
+    ) -> Told<(Cell, Shared), u64>
         requires { CloseFits self shared (length opened.now) (length runs.old) (length table.old) }
-        ensures { (of_answer result.answer, result.cell, result.shared, runs.new, table.new) ≡ close_cell self shared number way opened.now runs.old table.old }
+        ensures { (of_answer result.answer, result.state.0, result.state.1, runs.new, table.new) ≡ close_cell self shared number way opened.now runs.old table.old }
     {
         match self.close_gate(shared, number, way, opened) {
-            Gate::Refuse(r) => ClosedTold {
-                cell: self,
-                shared,
-                answer: Answer::Refused(r),
+            Err(r) => Told {
+                state: (self, shared),
+                answer: Err(r),
             },
-            Gate::Again(a) => ClosedTold {
-                cell: self,
-                shared,
-                answer: Answer::Done(a),
+            Ok(Some(again)) => Told {
+                state: (self, shared),
+                answer: Ok(again),
             },
-            Gate::Go => self.file_unitig(shared, number, way, opened, runs, table),
+            Ok(None) => self.file_unitig(shared, number, way, opened, runs, table),
         }
     }
 }
 
 impl Store {
     // Refusal 15, altered state or buffers; then the cell's close.
+    #[tactic(auto, using(base::proofs::Tests::tests), unfolding(crate::specs::Close::close_step))]
     pub fn close(
         self,
         number: u32,
@@ -197,25 +186,27 @@ impl Store {
         held: &[u64],
         runs: &mut [u8],
         table: &mut [u64],
-    ) -> Told
-        ensures { (of_answer result.answer, result.store, bufs records.now index.now opened.now held.now runs.new table.new)
+    ) -> Told<Store, u64>
+        ensures { (of_answer result.answer, result.state, bufs records.now index.now opened.now held.now runs.new table.new)
             ≡ close_step self (bufs records.now index.now opened.now held.now runs.old table.old) number way }
     {
-        if self.altered(
-            records.len(),
-            index.len(),
-            opened.len(),
-            held.len(),
-            runs.len(),
-            table.len(),
-        ) {
+        if self.altered(Lengths::of(records, index, opened, held, runs, table)) {
             return Told {
-                store: self,
-                answer: Answer::Refused(Refusal::Altered),
+                state: self,
+                answer: Err(Refusal::Altered),
             };
         }
-        let cell = self.cell;
-        let shared = self.shared;
-        self.with_closed(cell.close(shared, number, way, opened, runs, table))
+        let told = self
+            .cell
+            .close(self.shared, number, way, opened, runs, table);
+        let (cell, shared) = told.state;
+        Told {
+            state: Store {
+                cell,
+                shared,
+                ..self
+            },
+            answer: told.answer,
+        }
     }
 }

@@ -1,189 +1,130 @@
 // Join: a piece behind a cell's open unitig, or the first of a new one.
-ghost use Rattle.std.specs.Prelude.{◌≡◌, ◌&&◌, ◌<◌, ◌≤◌, length, take, eqb};
-ghost use Rattle.codec.specs.Records.{same};
+ghost use Rattle.std.specs.Prelude.{◌≡◌, ◌<◌, ◌≤◌, length, take};
 ghost use Rattle.runs.specs.Reverse.{oriented};
 ghost use Rattle.store.specs.State.{bufs, of_answer};
 ghost use Rattle.store.specs.Numbered.{numbered};
-ghost use Rattle.store.specs.Join.{alike, all_named, same_join, open_count, open_at, open_new, open_test, open_space, join_test, join_filed, join_cell, join_step};
+ghost use Rattle.store.specs.Join.{all_named, same_join, open_count, open_at, open_new, open_test, open_space, join_test, join_filed, join_cell, join_step};
 ghost use Rattle.store.specs.Inside.Fits.{JoinFits, JoinReady, OpenReady, open_after};
 
-use crate::numbered::{Gate, Sequence};
-use crate::state::{Answer, Cell, CellTold, Current, Last, Store, Told};
+use crate::lengths::Lengths;
+use crate::numbered::Sequence;
+use crate::state::{Cell, Current, Extent, Last, Store, Told};
 use crate::{counts, numbered};
 use base::Refusal;
 
-fn alike(a: bool, b: bool) -> bool
-    ensures { result ≡ alike a b }
-{
-    if a {
-        return b;
-    }
-    !b
-}
-
-fn same_runs(a: &[u64], b: &[u64]) -> bool
-    ensures { result ≡ same a.now b.now }
-{
-    if a.len() != b.len() {
-        return false;
-    }
-    let mut i: usize = 0;
-    while i < a.len() {
-        if a[i] != b[i] {
-            return false;
-        }
-        i += 1;
-    }
-    true
-}
-
-// Whether every coordinate is the worker's, with a place below `sets`.
-fn all_named(worker: u32, sets: u32, piece: &[u64]) -> bool
-    ensures { result ≡ all_named worker sets piece.now }
-{
-    let mut i: usize = 0;
-    while i < piece.len() {
-        let c = runs::words::coordinate(piece[i]);
-        if runs::words::worker(c) != worker {
-            return false;
-        }
-        if sets as u64 <= runs::words::place(c) {
-            return false;
-        }
-        i += 1;
-    }
-    true
-}
-
 impl Cell {
-    // Whether a last join of `m` vertices, turned round or not, was this one.
-    fn same_piece(
-        self,
-        m: u32,
-        back: bool,
-        n: u32,
-        reversed: bool,
-        piece: &[u64],
-        held: &[u64],
-    ) -> bool
-        requires { self.held.used ≤ length held.now }
-        ensures { result ≡ (eqb m n && alike back reversed && same (take self.held.used held.now) piece.now) }
+    // Whether every coordinate of a piece names a set.
+    fn all_named(self, piece: &[u64]) -> bool
+        ensures { result ≡ all_named self.worker self.sets piece.now }
     {
-        if m != n {
-            return false;
-        }
-        if !alike(back, reversed) {
-            return false;
-        }
-        let end = self.held.used;
-        same_runs(&held[..end], piece)
+        piece
+            .iter()
+            .all(|run| !self.unnamed(runs::words::coordinate(*run)))
     }
 
     // Whether the last call was a join of this piece.
+    #[tactic(auto, using(crate::proofs::Laws::Joining::same_slices), unfolding(crate::specs::Join::same_join, crate::specs::Join::alike))]
     fn is_last_join(self, n: u32, reversed: bool, piece: &[u64], held: &[u64]) -> bool
         requires { self.held.used ≤ length held.now }
         ensures { result ≡ same_join self.held.used held.now self.last n reversed piece.now }
     {
-        let last = self.last;
-        match last {
-            Last::Fresh => false,
-            Last::Add => false,
-            Last::Join {
-                n: m,
-                reversed: back,
-            } => self.same_piece(m, back, n, reversed, piece, held),
-            Last::Close { way: _ } => false,
-        }
+        let end = self.held.used;
+        self.last == Last::Join { n, reversed } && &held[..end] == piece
     }
 
     // The vertex count with a piece of n more.
+    #[tactic(auto, unfolding(crate::specs::Join::open_count))]
     fn new_count(self, n: u32) -> u64
         requires { 0 < n }
         ensures { result ≡ open_count self.current n }
     {
-        let current = self.current;
-        match current {
+        match self.current {
             Current::Nothing => n as u64,
             Current::Open(m) => m as u64 + n as u64 - 1,
         }
     }
 
     // Where new open runs go.
+    #[tactic(auto, unfolding(crate::specs::Join::open_at))]
     fn open_at(self) -> usize
         ensures { result ≡ open_at self.current self.opened.used }
     {
-        let current = self.current;
-        match current {
+        match self.current {
             Current::Nothing => 0,
             Current::Open(_) => self.opened.used,
         }
     }
 
     // Refusal 3, no space for the open runs or the held piece.
-    fn open_space(self, new: usize, held: usize) -> Gate
+    #[tactic(auto, using(base::proofs::Tests::tests), unfolding(crate::specs::Join::open_space, crate::specs::Join::open_at))]
+    fn open_space(self, new: usize, held: usize) -> Result<(), Refusal>
         requires { self.opened.used ≤ self.opened.length }
         ensures { result ≡ open_space self new held }
     {
         let at = self.open_at();
-        if self.opened.length - at < new {
-            return Gate::Refuse(Refusal::Space);
+        if self.opened.length - at < new || self.held.length < held {
+            return Err(Refusal::Space);
         }
-        if self.held.length < held {
-            return Gate::Refuse(Refusal::Space);
-        }
-        Gate::Go
+        Ok(())
     }
 
     // With an open unitig of m vertices: refusal 5, its runs not sharp; 8, the piece begins elsewhere; 3, no space.
-    fn meet_open(self, m: u32, n: u32, reversed: bool, piece: &[u64], opened: &[u64]) -> Gate
+    #[tactic(auto, using(base::proofs::Tests::tests, crate::proofs::Laws::Joining::new_runs, runs::proofs::Laws::Reverse::oriented_long), unfolding(crate::specs::Join::open_test))]
+    fn meet_open(
+        self,
+        m: u32,
+        n: u32,
+        reversed: bool,
+        piece: &[u64],
+        opened: &[u64],
+    ) -> Result<(), Refusal>
         requires { (self.current ≡ Current.Open m) × (self.opened.used ≤ length opened.now) × (self.opened.used ≤ self.opened.length) × (0 < length piece.now) }
         ensures { result ≡ open_test self.current (take self.opened.used opened.now) (oriented reversed n piece.now) (open_space self (length (open_new self.current (take self.opened.used opened.now) (oriented reversed n piece.now))) (length piece.now)) }
     {
         let end = self.opened.used;
         if !runs::orders::is_sharp(&opened[..end], m) {
-            return Gate::Refuse(Refusal::Damaged);
+            return Err(Refusal::Damaged);
         }
         if runs::orders::last_coordinate(&opened[..end])
             != runs::reverse::first_coordinate(piece, n, reversed)
         {
-            return Gate::Refuse(Refusal::Junction);
+            return Err(Refusal::Junction);
         }
         self.open_space(piece.len() - 1, piece.len())
     }
 
     // Refusals 5, 8 where a unitig is open; then 3, no space.
-    fn meet(self, n: u32, reversed: bool, piece: &[u64], opened: &[u64]) -> Gate
+    #[tactic(auto, using(base::proofs::Tests::tests, runs::proofs::Laws::Reverse::oriented_long), unfolding(crate::specs::Join::open_test, crate::specs::Join::open_new))]
+    fn meet(self, n: u32, reversed: bool, piece: &[u64], opened: &[u64]) -> Result<(), Refusal>
         requires { (self.opened.used ≤ length opened.now) × (self.opened.used ≤ self.opened.length) × (0 < length piece.now) }
         ensures { result ≡ open_test self.current (take self.opened.used opened.now) (oriented reversed n piece.now) (open_space self (length (open_new self.current (take self.opened.used opened.now) (oriented reversed n piece.now))) (length piece.now)) }
     {
-        let current = self.current;
-        match current {
+        match self.current {
             Current::Nothing => self.open_space(piece.len(), piece.len()),
             Current::Open(m) => self.meet_open(m, n, reversed, piece, opened),
         }
     }
 
     // Refusal 7, vertex count; 6, not sharp; 9, a coordinate that names no set; then 5, 8, 3.
-    fn join_test(self, n: u32, reversed: bool, piece: &[u64], opened: &[u64]) -> Gate
+    #[tactic(auto, using(base::proofs::Tests::tests, crate::proofs::Laws::Joining::some_runs), unfolding(crate::specs::Join::join_test))]
+    fn join_test(self, n: u32, reversed: bool, piece: &[u64], opened: &[u64]) -> Result<(), Refusal>
         requires { (self.opened.used ≤ length opened.now) × (self.opened.used ≤ self.opened.length) }
         ensures { result ≡ join_test self opened.now n reversed piece.now }
     {
-        if n == 0 {
-            return Gate::Refuse(Refusal::Vertices);
-        }
-        if 16777215 < self.new_count(n) {
-            return Gate::Refuse(Refusal::Vertices);
+        if n == 0 || 16777215 < self.new_count(n) {
+            return Err(Refusal::Vertices);
         }
         if !runs::orders::is_sharp(piece, n) {
-            return Gate::Refuse(Refusal::Runs);
+            return Err(Refusal::Runs);
         }
-        if !all_named(self.worker, self.sets, piece) {
-            return Gate::Refuse(Refusal::Coordinate);
+        if !self.all_named(piece) {
+            return Err(Refusal::Coordinate);
         }
         self.meet(n, reversed, piece, opened)
     }
 
-    // All tests of a join but 15.
+    // All tests of a join but 15: the answer of the call that it repeats, or none where it is new.
+    #[tactic(auto, unfolding(crate::specs::Numbered::numbered, crate::specs::Numbered::by_sequence, crate::specs::Numbered::tested))]
     fn join_gate(
         self,
         number: u32,
@@ -192,17 +133,18 @@ impl Cell {
         piece: &[u64],
         opened: &[u64],
         held: &[u64],
-    ) -> Gate
+    ) -> Result<Option<u64>, Refusal>
         requires { JoinFits self (length opened.now) (length held.now) }
         ensures { result ≡ numbered self number (same_join self.held.used held.now self.last n reversed piece.now) (join_test self opened.now n reversed piece.now) }
     {
-        match self.sequence(number) {
-            Sequence::Out => Gate::Refuse(Refusal::Number),
-            Sequence::Repeat => numbered::repeated(
-                self.is_last_join(n, reversed, piece, held),
-                self.answer,
-            ),
-            Sequence::New => self.join_test(n, reversed, piece, opened),
+        match self.sequence(number)? {
+            Sequence::Repeat => {
+                numbered::repeated(self.is_last_join(n, reversed, piece, held), self.answer)
+            }
+            Sequence::New => {
+                self.join_test(n, reversed, piece, opened)?;
+                Ok(None)
+            }
         }
     }
 
@@ -211,8 +153,7 @@ impl Cell {
         requires { OpenReady self n reversed piece.now opened.old }
         ensures { (result, opened.new) ≡ open_after self n reversed piece.now opened.old }
     {
-        let current = self.current;
-        match current {
+        match self.current {
             Current::Nothing => counts::written(runs::reverse::orient_color_runs(
                 piece, n, reversed, opened,
             )),
@@ -236,30 +177,36 @@ impl Cell {
         piece: &[u64],
         opened: &mut [u64],
         held: &mut [u64],
-    ) -> CellTold
+    ) -> Told<Cell, u64>
         requires { JoinReady self n reversed piece.now opened.old (length held.old) }
-        ensures { (of_answer result.answer, result.cell, opened.new, held.new) ≡ join_filed self number n reversed piece.now opened.old held.old }
+        ensures { (of_answer result.answer, result.state, opened.new, held.new) ≡ join_filed self number n reversed piece.now opened.old held.old }
     {
         let total = self.put_open(n, reversed, piece, opened);
         runs::reverse::orient_color_runs(piece, n, false, held);
         let count = self.new_count(n);
-        let cell = self.after(
-            self.records.used,
-            self.sets,
-            total,
-            piece.len(),
-            Current::Open(count as u32),
+        let state = Cell {
+            opened: Extent {
+                used: total,
+                ..self.opened
+            },
+            held: Extent {
+                used: piece.len(),
+                ..self.held
+            },
+            current: Current::Open(count as u32),
             number,
-            Last::Join { n, reversed },
-            count,
-        );
-        CellTold {
-            cell,
-            answer: Answer::Done(count),
+            last: Last::Join { n, reversed },
+            answer: count,
+            ..self
+        };
+        Told {
+            state,
+            answer: Ok(count),
         }
     }
 
     // A piece joins the open unitig; answers the new vertex count. Refusals 10, 11, 7, 6, 9, 5, 8, 3, in this order.
+    #[tactic(auto, unfolding(crate::specs::Join::join_cell, crate::specs::Numbered::by_gate))]
     fn join(
         self,
         number: u32,
@@ -268,26 +215,27 @@ impl Cell {
         piece: &[u64],
         opened: &mut [u64],
         held: &mut [u64],
-    ) -> CellTold
+    ) -> Told<Cell, u64>
         requires { JoinFits self (length opened.old) (length held.old) }
-        ensures { (of_answer result.answer, result.cell, opened.new, held.new) ≡ join_cell self number n reversed piece.now opened.old held.old }
+        ensures { (of_answer result.answer, result.state, opened.new, held.new) ≡ join_cell self number n reversed piece.now opened.old held.old }
     {
         match self.join_gate(number, n, reversed, piece, opened, held) {
-            Gate::Refuse(r) => CellTold {
-                cell: self,
-                answer: Answer::Refused(r),
+            Err(r) => Told {
+                state: self,
+                answer: Err(r),
             },
-            Gate::Again(a) => CellTold {
-                cell: self,
-                answer: Answer::Done(a),
+            Ok(Some(again)) => Told {
+                state: self,
+                answer: Ok(again),
             },
-            Gate::Go => self.join_piece(number, n, reversed, piece, opened, held),
+            Ok(None) => self.join_piece(number, n, reversed, piece, opened, held),
         }
     }
 }
 
 impl Store {
     // Refusal 15, altered state or buffers; then the cell's join.
+    #[tactic(auto, using(base::proofs::Tests::tests), unfolding(crate::specs::Join::join_step))]
     pub fn join(
         self,
         number: u32,
@@ -300,24 +248,23 @@ impl Store {
         held: &mut [u64],
         runs: &[u8],
         table: &[u64],
-    ) -> Told
-        ensures { (of_answer result.answer, result.store, bufs records.now index.now opened.new held.new runs.now table.now)
+    ) -> Told<Store, u64>
+        ensures { (of_answer result.answer, result.state, bufs records.now index.now opened.new held.new runs.now table.now)
             ≡ join_step self (bufs records.now index.now opened.old held.old runs.now table.now) number n reversed piece.now }
     {
-        if self.altered(
-            records.len(),
-            index.len(),
-            opened.len(),
-            held.len(),
-            runs.len(),
-            table.len(),
-        ) {
+        if self.altered(Lengths::of(records, index, opened, held, runs, table)) {
             return Told {
-                store: self,
-                answer: Answer::Refused(Refusal::Altered),
+                state: self,
+                answer: Err(Refusal::Altered),
             };
         }
-        let cell = self.cell;
-        self.with_cell(cell.join(number, n, reversed, piece, opened, held))
+        let told = self.cell.join(number, n, reversed, piece, opened, held);
+        Told {
+            state: Store {
+                cell: told.state,
+                ..self
+            },
+            answer: told.answer,
+        }
     }
 }

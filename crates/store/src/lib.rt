@@ -2,6 +2,7 @@
 #![tactic(auto)]
 
 pub mod state; // the state, and what the calls answer
+mod lengths; // how long the buffers are that are lent
 mod start; // a fresh store
 mod altered; // 15, which every later call tests first
 mod numbered; // 10, 11 and repeats, which every numbered call tests next

@@ -5,47 +5,41 @@ ghost use Rattle.store.specs.Numbered.{sequence_of, repeated};
 use crate::state::Cell;
 use base::Refusal;
 
-// What the tests of a numbered call find, before anything is written.
-#[derive(Clone, Copy)]
-pub enum Gate {
-    Refuse(Refusal),
-    Again(u64),
-    Go,
-}
-
-// Where a call's number stands: out of sequence, at the last accepted one, or at the next.
-#[derive(Clone, Copy)]
+// Where the number of a call stands that is not out of sequence: at the last accepted one, or at the next.
+#[derive(Clone, Copy, Debug, PartialEq, Eq)]
 pub enum Sequence {
-    Out,
     Repeat,
     New,
 }
 
 // The last number: the answer again for the same call, otherwise 11.
-pub(crate) fn repeated(same: bool, answer: u64) -> Gate
+#[tactic(auto, using(base::proofs::Tests::tests), unfolding(crate::specs::Numbered::repeated))]
+pub(crate) fn repeated(same: bool, answer: u64) -> Result<Option<u64>, Refusal>
     ensures { result ≡ repeated same answer }
 {
     if same {
-        return Gate::Again(answer);
+        Ok(Some(answer))
+    } else {
+        Err(Refusal::Arguments)
     }
-    Gate::Refuse(Refusal::Arguments)
 }
 
 impl Cell {
-    pub(crate) fn sequence(self, number: u32) -> Sequence
+    #[tactic(auto, using(base::proofs::Tests::tests), unfolding(crate::specs::Numbered::sequence_of))]
+    pub(crate) fn sequence(self, number: u32) -> Result<Sequence, Refusal>
         ensures { result ≡ sequence_of self.number number }
     {
         let last = self.number;
         if number == 0 {
-            return Sequence::Out;
+            return Err(Refusal::Number);
         }
         if number == last {
-            return Sequence::Repeat;
+            return Ok(Sequence::Repeat);
         }
         // not last + 1, which could wrap
         if number - 1 == last {
-            return Sequence::New;
+            return Ok(Sequence::New);
         }
-        Sequence::Out
+        Err(Refusal::Number)
     }
 }

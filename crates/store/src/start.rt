@@ -1,121 +1,85 @@
 // A fresh store.
 ghost use Rattle.std.specs.Prelude.{◌≡◌};
-ghost use Rattle.base.specs.Answers.{of_made};
-ghost use Rattle.store.specs.State.{bufs, lengths, cell_lengths, shared_lengths};
+ghost use Rattle.store.specs.State.{bufs, of_started};
 ghost use Rattle.store.specs.Start.{bad_limits, bad_cell_lengths, bad_shared_lengths, bad_lengths, fresh, start_step, unstarted};
+ghost use Rattle.store.specs.Inside.Lent.{cell_lent, shared_lent, all_lent};
 
-use crate::altered;
-use crate::state::{Cell, Current, Extent, Last, Shared, Started, Store};
-use base::{Made, Refusal};
+use crate::altered::{bad_colors, too_long};
+use crate::lengths::{CellLengths, Lengths, SharedLengths};
+use crate::state::{Cell, Extent, Shared, Store, Told};
+use base::Refusal;
 
 // Whether N is outside 1 to 1,048,576 or the worker above 255.
+#[tactic(auto, unfolding(crate::specs::Start::bad_limits))]
 fn bad_limits(colors: u32, worker: u32) -> bool
     ensures { result ≡ bad_limits colors worker }
 {
-    if altered::bad_colors(colors) {
-        return true;
-    }
-    255 < worker
+    bad_colors(colors) || 255 < worker
 }
 
-// No index entry, or a buffer of a cell that is too long.
-fn bad_cell_lengths(records: usize, index: usize, opened: usize, held: usize) -> bool
-    ensures { result ≡ bad_cell_lengths (cell_lengths records index opened held) }
-{
-    if index == 0 {
-        return true;
+impl CellLengths {
+    // No index entry, or a buffer of a cell that is too long.
+    #[tactic(auto, unfolding(crate::specs::Start::bad_cell_lengths, base::specs::Tests::any_of))]
+    fn bad(self) -> bool
+        ensures { result ≡ bad_cell_lengths (cell_lent self) }
+    {
+        self.index == 0
+            || too_long(self.records)
+            || too_long(self.index)
+            || too_long(self.opened)
+            || too_long(self.held)
     }
-    if altered::too_long(records) {
-        return true;
-    }
-    if altered::too_long(index) {
-        return true;
-    }
-    if altered::too_long(opened) {
-        return true;
-    }
-    altered::too_long(held)
 }
 
-fn bad_shared_lengths(runs: usize, table: usize) -> bool
-    ensures { result ≡ bad_shared_lengths (shared_lengths runs table) }
-{
-    if altered::too_long(runs) {
-        return true;
+impl SharedLengths {
+    #[tactic(auto, unfolding(crate::specs::Start::bad_shared_lengths, base::specs::Tests::any_of))]
+    fn bad(self) -> bool
+        ensures { result ≡ bad_shared_lengths (shared_lent self) }
+    {
+        too_long(self.runs) || too_long(self.table)
     }
-    altered::too_long(table)
 }
 
-fn bad_lengths(
-    records: usize,
-    index: usize,
-    opened: usize,
-    held: usize,
-    runs: usize,
-    table: usize,
-) -> bool
-    ensures { result ≡ bad_lengths (lengths records index opened held runs table) }
-{
-    if bad_cell_lengths(records, index, opened, held) {
-        return true;
+impl Lengths {
+    #[tactic(auto, unfolding(crate::specs::Start::bad_lengths))]
+    fn bad(self) -> bool
+        ensures { result ≡ bad_lengths (all_lent self) }
+    {
+        self.cell.bad() || self.shared.bad()
     }
-    bad_shared_lengths(runs, table)
 }
 
 // The state of a store that nothing was sent to.
-fn fresh(
-    colors: u32,
-    worker: u32,
-    records: usize,
-    index: usize,
-    opened: usize,
-    held: usize,
-    runs: usize,
-    table: usize,
-) -> Store
-    ensures { result ≡ fresh colors worker (lengths records index opened held runs table) }
+#[tactic(auto, unfolding(crate::specs::Start::fresh, crate::specs::Start::fresh_cell, crate::specs::Start::fresh_shared))]
+fn fresh(colors: u32, worker: u32, lengths: Lengths) -> Store
+    ensures { result ≡ fresh colors worker (all_lent lengths) }
 {
     Store {
         colors,
         cell: Cell {
             worker,
-            records: Extent {
-                length: records,
-                used: 0,
-            },
-            index,
-            sets: 0,
-            opened: Extent {
-                length: opened,
-                used: 0,
-            },
-            held: Extent {
-                length: held,
-                used: 0,
-            },
-            current: Current::Nothing,
-            number: 0,
-            last: Last::Fresh,
-            answer: 0,
+            records: Extent::unused(lengths.cell.records),
+            index: lengths.cell.index,
+            opened: Extent::unused(lengths.cell.opened),
+            held: Extent::unused(lengths.cell.held),
+            ..Cell::default()
         },
         shared: Shared {
-            runs: Extent {
-                length: runs,
-                used: 0,
-            },
-            table,
+            runs: Extent::unused(lengths.shared.runs),
+            table: lengths.shared.table,
             unitigs: 0,
         },
     }
 }
 
 // A colour count of 0: no call is taken with such a state.
-fn unstarted(r: Refusal) -> Started
+#[tactic(auto, unfolding(crate::specs::Start::fresh, crate::specs::Start::fresh_cell, crate::specs::Start::fresh_shared))]
+fn unstarted(r: Refusal) -> Told<Store, ()>
     ensures { result ≡ unstarted r }
 {
-    Started {
-        store: fresh(0, 0, 0, 0, 0, 0, 0, 0),
-        answer: Made::Refused(r),
+    Told {
+        state: Store::default(),
+        answer: Err(r),
     }
 }
 
@@ -130,37 +94,21 @@ impl Store {
         held: &[u64],
         runs: &[u8],
         table: &[u64],
-    ) -> Started
-        ensures { (of_made result.answer, result.store, bufs records.now index.new opened.now held.now runs.now table.now)
+    ) -> Told<Store, ()>
+        ensures { (of_started result.answer, result.state, bufs records.now index.new opened.now held.now runs.now table.now)
             ≡ start_step colors worker (bufs records.now index.old opened.now held.now runs.now table.now) }
     {
+        let lengths = Lengths::of(records, index, opened, held, runs, table);
         if bad_limits(colors, worker) {
             return unstarted(Refusal::Colors);
         }
-        if bad_lengths(
-            records.len(),
-            index.len(),
-            opened.len(),
-            held.len(),
-            runs.len(),
-            table.len(),
-        ) {
+        if lengths.bad() {
             return unstarted(Refusal::Space);
         }
         index[0] = 0;
-        let store = fresh(
-            colors,
-            worker,
-            records.len(),
-            index.len(),
-            opened.len(),
-            held.len(),
-            runs.len(),
-            table.len(),
-        );
-        Started {
-            store,
-            answer: Made::Done,
+        Told {
+            state: fresh(colors, worker, lengths),
+            answer: Ok(()),
         }
     }
 }

@@ -28,7 +28,7 @@ use Rattle.store.specs.Close.{same_way, same_close, filed_runs, filed_bytes, cou
 use Rattle.store.specs.Demand.{LentCall, updating, showing, Seen, seen, sent, out_of, as_seen, all_seen, way_of, store_update, store_step, store_run}
 use Rattle.store.specs.Filed.{unnamed, record_start, set_in, set_from, set_at, reads_as}
 use Rattle.store.specs.Join.{alike, same_join, open_count, open_at, open_new, all_named, open_test, open_space, join_test, join_filed_at, join_cell, join_step}
-use Rattle.store.specs.Numbered.{sequence_of, repeated, by_sequence, numbered, by_gate}
+use Rattle.store.specs.Numbered.{sequence_of, repeated, tested, by_sequence, numbered, by_gate}
 use Rattle.store.specs.Plain.{Way, line, cycle, add, join, close, plain_fresh, is_empty, ascends_from, ascends, all_below, is_set, are_sharp, name_sets, equal, inner_starts, expanded, turned_round, piece_of, joined, new_count, differs, filed, bytes_of, is_open, add_tests, join_tests, close_tests, tests, equal_ways, both_or_neither, equal_updates, again, verdict, close_effect, effect, accepted, plain_update, coord_at, ids_at, no_vertex, plain_show, plain_step, plain_run}
 use Rattle.store.specs.Show.{no_place, coord_from, set_by, vertex_set, shown_by, show_step}
 use Rattle.store.specs.Start.{bad_limits, too_long, bad_cell_lengths, bad_shared_lengths, bad_lengths, fresh_cell, fresh_shared, fresh, start_step}
@@ -594,7 +594,7 @@ unfolding
     words after_count read_runs sharp_colour_in sharp_colour unitig_open no_space add_test same_add add_filed add_cell add_step altered_buffer bad_vertices
     bad_current altered_cell altered_shared altered same_way same_close filed_runs filed_bytes count_of close_open no_close_space close_test close_filed_of close_cell
     close_step sent out_of as_seen all_seen way_of store_update store_step store_run unnamed record_start set_in set_from set_at reads_as alike same_join open_count
-    open_at open_new all_named open_test open_space join_test join_filed_at join_cell join_step sequence_of repeated by_sequence numbered by_gate plain_fresh is_empty
+    open_at open_new all_named open_test open_space join_test join_filed_at join_cell join_step sequence_of repeated tested by_sequence numbered by_gate plain_fresh is_empty
     ascends_from ascends all_below is_set are_sharp name_sets equal inner_starts expanded turned_round piece_of joined new_count differs filed bytes_of is_open
     add_tests join_tests close_tests tests equal_ways both_or_neither equal_updates again verdict close_effect effect accepted plain_update coord_at ids_at
     no_vertex plain_show plain_step plain_run no_place coord_from set_by vertex_set shown_by show_step bad_limits too_long bad_cell_lengths bad_shared_lengths

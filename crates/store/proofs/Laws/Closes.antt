@@ -8,6 +8,7 @@ use native.Mathlib.Omega.{arith}
 use lib.ListN.{length, take, set, length-set}
 use lib.Dec.{ltb}
 use borrow.Author.Tests.{ltb-false}
+use Rattle.std.proofs.Common.{Ok, Err}
 use Rattle.base.specs.Answers.{done}
 use Rattle.base.specs.Tests.{◌when◌else◌}
 use Rattle.base.specs.declared.Refusal.TheVariants.{Space}
@@ -19,7 +20,6 @@ use Rattle.store.specs.Close.{after_close, close_filed, close_filed_of, close_op
 use Rattle.store.specs.Demand.{way_of}
 use Rattle.store.specs.Plain.{Plain, PlainCell, SharedLengths, Unitig, Way, accept, accepted, bytes_of, close, close_effect, close_tests, closed_bytes, cycle, effect, filed, line, tests}
 use Rattle.store.specs.State.{Bufs, CellBufs, Outcome, SharedBufs, after, shared_bufs, with_unitig}
-use Rattle.store.specs.declared.numbered.Gate.TheVariants.{Go, Refuse}
 use Rattle.store.specs.declared.state.Cell.{Cell}
 use Rattle.store.specs.declared.state.Current.{Current}
 use Rattle.store.specs.declared.state.Shared.{Shared}
@@ -56,13 +56,13 @@ module _ {names : ℕ → Type 0} {us : List Unitig} {l : SharedLengths} {s : Sh
   space_agrees len = rw (r.run_size.told, r.table_size.told, r.closed.far, r.closed.many)
 
   open_tests : {named : ℕ → Type 0} {c : Option Unitig} {o : Current} → OpenRep named c o used opened
-      → as_verdict (close_open o old (◌when◌else◌ (Refuse Space) (no_close_space s (length (filed_bytes (way_of way) o old))) Go)) ≡ close_tests us l way c
+      → as_verdict (close_open o old (◌when◌else◌ (Err Space) (no_close_space s (length (filed_bytes (way_of way) o old))) (Ok tt))) ≡ close_tests us l way c
   unfolding as_verdict close_tests close_open filed_bytes ◌when◌else◌ bytes_of
   open_tests rep.closed = refl
   open_tests (rep.opened {u} {n = m} q g t) =
       let a : sharp m old ≡ true = rw (t, q) g.is_sharp in
       let f : filed_runs (way_of way) m old ≡ unitig_runs (filed way u) = rw (t, q) (filed_is way u g) in
-      rw (a, f) (refuse_both Space Go accept (space_agrees (length (run_bytes (unitig_runs (filed way u))))) (λ z. refl))
+      rw (a, f) (refuse_both Space (Ok tt) accept (space_agrees (length (run_bytes (unitig_runs (filed way u))))) (λ z. refl))
 
   -- what the close of this open unitig files
   record Filing (named : ℕ → Type 0) (c : Option Unitig) (o : Current) : Type 0 where

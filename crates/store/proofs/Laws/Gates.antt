@@ -1,27 +1,36 @@
 -- What the tests over the buffers find, in the plain store's words: 10, 11 and repeats, and choices by the same tests.
 use Prim.Native.Nat.{ℕ, ◌+◌}
-use mathlib.Core.Path.{◌≡◌, refl}
+use mathlib.Core.Path.{◌≡◌, refl, ◌∙◌}
 use mathlib.Core.Bool.{Bool, true, false, not, ◌||◌}
 use mathlib.Core.List.{[], ◌∷◌}
 use mathlib.Core.Option.{Option, none, some}
 use native.Mathlib.Omega.{arith}
 use lib.Dec.{eqb}
 use borrow.Author.Tests.{eqb-true, not-false}
+use Rattle.std.proofs.Common.{Ok, Err, Some, None}
 use Rattle.base.specs.Answers.{Answer, done, number_of, refused}
 use Rattle.base.specs.Tests.{◌when◌else◌}
 use Rattle.base.specs.declared.Refusal.{Refusal}
+use Rattle.base.specs.declared.Refusal.TheVariants.{Number}
 use Rattle.base.proofs.Bools.{or_none}
-use Rattle.store.specs.Numbered.{by_gate, by_sequence, numbered, repeated, sequence_of}
+use Rattle.store.specs.Numbered.{Gate, Test, by_gate, by_sequence, numbered, repeated, sequence_of, tested}
 use Rattle.store.specs.Plain.{Plain, Update, Verdict, accept, again, equal_updates, refuse, repeat, tests, verdict}
-use Rattle.store.specs.declared.numbered.Gate.{Gate}
-use Rattle.store.specs.declared.numbered.Gate.TheVariants.{Again, Go, Refuse}
-use Rattle.store.specs.declared.numbered.Sequence.TheVariants.{New, Out, Repeat}
+use Rattle.store.specs.declared.numbered.Sequence.TheVariants.{New, Repeat}
 use Rattle.store.specs.declared.state.Cell.{Cell}
 
-unfoldable pub as_verdict : Gate → Verdict
-as_verdict (Refuse r) = refuse (number_of r)
-as_verdict (Again a) = repeat a
-as_verdict Go = accept
+unfoldable pub as_verdict : Test → Verdict
+as_verdict (Err r) = refuse (number_of r)
+as_verdict (Ok _) = accept
+
+unfoldable pub gate_verdict : Gate → Verdict
+gate_verdict (Err r) = refuse (number_of r)
+gate_verdict (Ok (Some a)) = repeat a
+gate_verdict (Ok None) = accept
+
+tested_verdict : (t : Test) → gate_verdict (tested t) ≡ as_verdict t
+unfolding gate_verdict as_verdict tested
+tested_verdict (Err r) = refl
+tested_verdict (Ok _) = refl
 
 -- a step by its gate is one by the verdict
 unfoldable pub by_verdict : {R : Type 0} → Verdict → (told : Answer → R) → (go : R) → R
@@ -29,20 +38,20 @@ by_verdict (refuse r) told go = told (refused r)
 by_verdict (repeat a) told go = told (done (a ∷ []))
 by_verdict accept told go = go
 
-pub by_verdict_lem : {R : Type 0} (g : Gate) (told : Answer → R) (go : R) → by_gate g told go ≡ by_verdict (as_verdict g) told go
-unfolding by_gate by_verdict as_verdict
-by_verdict_lem (Refuse r) told go = refl
-by_verdict_lem (Again a) told go = refl
-by_verdict_lem Go told go = refl
+pub by_verdict_lem : {R : Type 0} (g : Gate) (told : Answer → R) (go : R) → by_gate g told go ≡ by_verdict (gate_verdict g) told go
+unfolding by_gate by_verdict gate_verdict
+by_verdict_lem (Err r) told go = refl
+by_verdict_lem (Ok (Some a)) told go = refl
+by_verdict_lem (Ok None) told go = refl
 
 -- ---- one test
 
 -- with tests that agree, the two agree if they do where the test fails
-pub refuse_both : (r : Refusal) {t u : Bool} (g : Gate) (v : Verdict) → t ≡ u → (u ≡ false → as_verdict g ≡ v) → as_verdict (◌when◌else◌ (Refuse r) t g) ≡ ◌when◌else◌ (refuse (number_of r)) u v
+pub refuse_both : (r : Refusal) {t u : Bool} (g : Test) (v : Verdict) → t ≡ u → (u ≡ false → as_verdict g ≡ v) → as_verdict (◌when◌else◌ (Err r) t g) ≡ ◌when◌else◌ (refuse (number_of r)) u v
 unfolding as_verdict ◌when◌else◌
 refuse_both r {t} {u} g v q e = rw q (go u e)
   where
-    go : (u : Bool) → (u ≡ false → as_verdict g ≡ v) → as_verdict (◌when◌else◌ (Refuse r) u g) ≡ ◌when◌else◌ (refuse (number_of r)) u v
+    go : (u : Bool) → (u ≡ false → as_verdict g ≡ v) → as_verdict (◌when◌else◌ (Err r) u g) ≡ ◌when◌else◌ (refuse (number_of r)) u v
     go true e = refl
     go false e = e refl
 
@@ -54,29 +63,29 @@ refuse_accept r false v e = (refl, e)
 
 -- ---- 10, 11 and repeats
 
-pub repeats : (same : Bool) (a : ℕ) (last u : Update) → same ≡ equal_updates last u → as_verdict (repeated same a) ≡ again (some (last, a)) u
-unfolding as_verdict repeated again ◌when◌else◌
+pub repeats : (same : Bool) (a : ℕ) (last u : Update) → same ≡ equal_updates last u → gate_verdict (repeated same a) ≡ again (some (last, a)) u
+unfolding gate_verdict repeated again ◌when◌else◌
 repeats same a last u e = rw e (go (equal_updates last u))
   where
-    go : (t : Bool) → as_verdict (repeated t a) ≡ ◌when◌else◌ (repeat a) t (refuse 11)
+    go : (t : Bool) → gate_verdict (repeated t a) ≡ ◌when◌else◌ (repeat a) t (refuse 11)
     go true = refl
     go false = refl
 
-pub repeats_none : (a : ℕ) (u : Update) → as_verdict (repeated false a) ≡ again none u
-unfolding as_verdict repeated again ◌when◌else◌
+pub repeats_none : (a : ℕ) (u : Update) → gate_verdict (repeated false a) ≡ again none u
+unfolding gate_verdict repeated again ◌when◌else◌
 repeats_none a u = refl
 
-in_sequence : (a b c : Bool) (r t : Gate) {r' t' : Verdict} → as_verdict r ≡ r' → as_verdict t ≡ t'
-    → as_verdict (by_sequence (◌when◌else◌ Out a (◌when◌else◌ Repeat b (◌when◌else◌ New c Out))) r t) ≡ ◌when◌else◌ (refuse 10) (a || not (b || c)) (◌when◌else◌ r' b t')
-unfolding as_verdict by_sequence ◌when◌else◌
+in_sequence : (a b c : Bool) (r : Gate) (t : Test) {r' t' : Verdict} → gate_verdict r ≡ r' → as_verdict t ≡ t'
+    → gate_verdict (by_sequence (◌when◌else◌ (Err Number) a (◌when◌else◌ (Ok Repeat) b (◌when◌else◌ (Ok New) c (Err Number)))) r t) ≡ ◌when◌else◌ (refuse 10) (a || not (b || c)) (◌when◌else◌ r' b t')
+unfolding gate_verdict by_sequence ◌when◌else◌
 in_sequence true b c r t e f = refl
 in_sequence false true c r t e f = e
-in_sequence false false true r t e f = f
+in_sequence false false true r t e f = tested_verdict t ∙ f
 in_sequence false false false r t e f = refl
 
 -- what is found of a numbered call, where its own tests and what is said of a repeat agree
-pub numbered_agrees : (p : Plain) (c : Cell) → c.number ≡ p.cell.last → (i : ℕ) (u : Update) (same : Bool) (g : Gate) → as_verdict (repeated same c.answer) ≡ again p.cell.call u → as_verdict g ≡ tests p u
-    → as_verdict (numbered c i same g) ≡ verdict p i u
+pub numbered_agrees : (p : Plain) (c : Cell) → c.number ≡ p.cell.last → (i : ℕ) (u : Update) (same : Bool) (g : Test) → gate_verdict (repeated same c.answer) ≡ again p.cell.call u → as_verdict g ≡ tests p u
+    → gate_verdict (numbered c i same g) ≡ verdict p i u
 unfolding numbered verdict sequence_of
 numbered_agrees p c n i u same g r t = rw n (in_sequence (eqb i 0) (eqb i p.cell.last) (eqb i (p.cell.last + 1)) _ g r t)
 

@@ -21,9 +21,9 @@ use Rattle.runs.specs.Orders.{sharp}
 use Rattle.runs.specs.Reverse.{oriented}
 use Rattle.runs.specs.Words.{coordinate}
 use Rattle.store.specs.Join.{after_join, all_named, join_filed, join_filed_at, join_test, open_at, open_count, open_new, open_space, open_test}
+use Rattle.store.specs.Numbered.{Test}
 use Rattle.store.specs.Plain.{Plain, PlainCell, Unitig, Verdict, accept, accepted, are_sharp, differs, effect, join, join_tests, joined, name_sets, new_count, piece_of, refuse, tests}
 use Rattle.store.specs.State.{Bufs, CellBufs, Outcome, after, with_opened}
-use Rattle.store.specs.declared.numbered.Gate.{Gate}
 use Rattle.store.specs.declared.state.Cell.{Cell}
 use Rattle.store.specs.declared.state.Current.{Current}
 use Rattle.store.specs.declared.state.Store.{Store}
@@ -106,7 +106,7 @@ module _ {N : ℕ} {p : PlainCell} {c : Cell} {b : CellBufs} (r : CellRep N p c 
         }
 
     -- 5, 8 and 3
-    meets : {u : Option Unitig} {o : Current} → OpenRep (NamedIn p) u o c.opened.used b.opened → new_count u n ≤ 16777215 → (rest : Gate) (rest' : Verdict) → (Joining u o → as_verdict rest ≡ rest')
+    meets : {u : Option Unitig} {o : Current} → OpenRep (NamedIn p) u o c.opened.used b.opened → new_count u n ≤ 16777215 → (rest : Test) (rest' : Verdict) → (Joining u o → as_verdict rest ≡ rest')
         → as_verdict (open_test o old (oriented back n runs) rest) ≡ ◌when◌else◌ (refuse 8) (differs u piece) rest'
     unfolding open_test differs ◌when◌else◌
     meets rep.closed h rest rest' k = k (joining rep.closed h refl)

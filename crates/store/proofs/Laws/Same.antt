@@ -22,16 +22,15 @@ use Rattle.store.specs.Close.{same_close}
 use Rattle.store.specs.Demand.{way_of}
 use Rattle.store.specs.Filed.{reads_as, record_start, set_at, set_from, set_in, unnamed}
 use Rattle.store.specs.Join.{same_join}
-use Rattle.store.specs.Numbered.{numbered, repeated}
+use Rattle.store.specs.Numbered.{Test, numbered, repeated}
 use Rattle.store.specs.Plain.{Plain, PlainCell, Update, Way, add, again, close, equal_updates, join, tests, verdict}
 use Rattle.store.specs.State.{Bufs, CellBufs}
-use Rattle.store.specs.declared.numbered.Gate.{Gate}
 use Rattle.store.specs.declared.state.Cell.{Cell}
 use Rattle.store.specs.declared.state.Last.{Last}
 use Rattle.store.specs.declared.state.Store.{Store}
 use Rattle.store.proofs.Laws.Agree.{alike_agrees, equal_agrees, ways_agree}
 use Rattle.store.proofs.Laws.Flats.{flat_take, from_start, start_at}
-use Rattle.store.proofs.Laws.Gates.{as_verdict, numbered_agrees, repeats, repeats_none}
+use Rattle.store.proofs.Laws.Gates.{as_verdict, gate_verdict, numbered_agrees, repeats, repeats_none}
 use Rattle.store.proofs.Laws.Rep.{CallRep, CellRep, NamedIn, Rep, added, filed, joined, nothing}
 
 -- ---- the record that a coordinate names
@@ -62,7 +61,7 @@ module _ {N : ℕ} {p : PlainCell} {c : Cell} {b : CellBufs} (limits : bad_color
       let x = promise.read N limits (get_or p.S (place_of coord) []) (flat (record_of N) (drop (suc (place_of coord)) p.S)) w in
       rw (start_here coord n, r.filed.far, r.filed.bytes, from_start (record_of N) p.S (place_of coord) [] n.low, x)
 
-  add_again : {l : Option (Update × ℕ)} {k : Last} → CallRep p.W p.S l k c.answer c.held.used b.held → (ids : List ℕ) → as_verdict (repeated (same_add N c b.records b.index k ids) c.answer) ≡ again l (add ids)
+  add_again : {l : Option (Update × ℕ)} {k : Last} → CallRep p.W p.S l k c.answer c.held.used b.held → (ids : List ℕ) → gate_verdict (repeated (same_add N c b.records b.index k ids) c.answer) ≡ again l (add ids)
   unfolding same_add equal_updates reads_as
   add_again nothing js = repeats_none _ _
   add_again (added {ids} k h e q) js =
@@ -76,14 +75,14 @@ module _ {N : ℕ} {p : PlainCell} {c : Cell} {b : CellBufs} (limits : bad_color
 
 -- ---- repeats
 
-join_again : {W : ℕ} {S : List (List ℕ)} {l : Option (Update × ℕ)} {k : Last} {a used : ℕ} {held : List ℕ} → CallRep W S l k a used held → (m : ℕ) (e : Bool) (piece : List ℕ) → as_verdict (repeated (same_join used held k m e piece) a) ≡ again l (join m e piece)
+join_again : {W : ℕ} {S : List (List ℕ)} {l : Option (Update × ℕ)} {k : Last} {a used : ℕ} {held : List ℕ} → CallRep W S l k a used held → (m : ℕ) (e : Bool) (piece : List ℕ) → gate_verdict (repeated (same_join used held k m e piece) a) ≡ again l (join m e piece)
 unfolding same_join equal_updates
 join_again nothing m e piece = repeats_none _ _
 join_again (added {ids} k h q x) m e piece = repeats _ _ (add ids) (join m e piece) refl
 join_again (joined {n} {r} {runs} q) m e piece = repeats _ _ (join n r runs) (join m e piece) (rw (q, alike_agrees r e, equal_agrees runs piece))
 join_again (filed {way}) m e piece = repeats _ _ (close way) (join m e piece) refl
 
-close_again : {W : ℕ} {S : List (List ℕ)} {l : Option (Update × ℕ)} {k : Last} {a used : ℕ} {held : List ℕ} → CallRep W S l k a used held → (way : Way) → as_verdict (repeated (same_close k (way_of way)) a) ≡ again l (close way)
+close_again : {W : ℕ} {S : List (List ℕ)} {l : Option (Update × ℕ)} {k : Last} {a used : ℕ} {held : List ℕ} → CallRep W S l k a used held → (way : Way) → gate_verdict (repeated (same_close k (way_of way)) a) ≡ again l (close way)
 unfolding same_close equal_updates
 close_again nothing w = repeats_none _ _
 close_again (added {ids} k h q x) w = repeats _ _ (add ids) (close w) refl
@@ -98,11 +97,11 @@ same_update N c b (add ids) = same_add N c b.records b.index c.last ids
 same_update N c b (join n reversed piece) = same_join c.held.used b.held c.last n reversed piece
 same_update N c b (close way) = same_close c.last (way_of way)
 
-again_agrees : {N : ℕ} {p : PlainCell} {c : Cell} {b : CellBufs} → bad_colors N ≡ false → CellRep N p c b → (u : Update) → as_verdict (repeated (same_update N c b u) c.answer) ≡ again p.call u
+again_agrees : {N : ℕ} {p : PlainCell} {c : Cell} {b : CellBufs} → bad_colors N ≡ false → CellRep N p c b → (u : Update) → gate_verdict (repeated (same_update N c b u) c.answer) ≡ again p.call u
 again_agrees limits r (add ids) = add_again limits r r.call ids
 again_agrees limits r (join n reversed piece) = join_again r.call n reversed piece
 again_agrees limits r (close way) = close_again r.call way
 
 -- what is found of it, where its own tests agree
-pub verdicts_agree : {p : Plain} {s : Store} {b : Bufs} → Rep p s b → (i : ℕ) (u : Update) (g : Gate) → as_verdict g ≡ tests p u → as_verdict (numbered s.cell i (same_update s.colors s.cell b.cell u) g) ≡ verdict p i u
+pub verdicts_agree : {p : Plain} {s : Store} {b : Bufs} → Rep p s b → (i : ℕ) (u : Update) (g : Test) → as_verdict g ≡ tests p u → gate_verdict (numbered s.cell i (same_update s.colors s.cell b.cell u) g) ≡ verdict p i u
 verdicts_agree {p} {s} {b} r i u g e = rw r.colors (numbered_agrees p s.cell r.cell.last i u _ g (again_agrees r.limits r.cell u) e)

@@ -1,13 +1,13 @@
 -- The cases of a show, as `search` looks for them.
-use Prim.Native.Nat.{ℕ, ◌+◌, ◌-◌, ◌*◌, ◌≤◌, ◌<◌}
+use Prim.Native.Nat.{ℕ, ◌-◌, ◌≤◌, ◌<◌}
 use mathlib.Core.Path.{◌≡◌, refl, sym, ap, ap₂, ◌∙◌}
 use mathlib.Core.Bool.{Bool, true, false}
 use mathlib.Core.List.{List, [], ◌∷◌}
 use mathlib.Core.Option.{Option, none, some}
 use native.Mathlib.Omega.{arith}
-use lib.ListN.{length, take, drop, get_or}
-use lib.Dec.{leb}
-use borrow.Author.Tests.{lt-ltb, le-ltb, le-leb, lt-leb, eq-eqb, ne_eqb, leb-false}
+use lib.ListN.{length, take, drop}
+use borrow.Author.Tests.{le-ltb, eq-eqb, ne_eqb, leb-false}
+use Rattle.std.proofs.Common.{Result, Ok, Err}
 use Rattle.base.specs.Answers.{Answer, done, number_of, of_given}
 use Rattle.base.specs.Answers as answer
 use Rattle.base.specs.Parts.{over}
@@ -20,21 +20,13 @@ use Rattle.base.proofs.Bools.{or_none, via}
 use Rattle.base.proofs.Tests.{when_no, when_yes}
 use Rattle.codec.specs.Records.{ReadRecord, bad_colors, read_by, read_into, read_record}
 use Rattle.codec.specs.Records as records
-use Rattle.runs.specs.Bytes.{of_colored, sharp_colour}
-use Rattle.runs.specs.declared.bytes.Colored.{Colored}
-use Rattle.runs.specs.declared.bytes.Colored.TheVariants as colored
+use Rattle.runs.specs.Bytes.{sharp_colour}
 use Rattle.store.specs.Altered.{altered}
-use Rattle.store.specs.Filed.{record_start, set_at, set_from, set_in}
-use Rattle.store.specs.Inside.Places.{of_placed}
+use Rattle.store.specs.Filed.{set_at, set_from, set_in}
 use Rattle.store.specs.Inside.Showing.{by_seek, damage_or, of_read, place_by, seek_by, seek_of}
+use Rattle.store.specs.Plain.{Lengths}
 use Rattle.store.specs.Show.{coord_from, no_place, set_by, show_step, shown_by, told_coord, vertex_coord, vertex_set, with_state}
 use Rattle.store.specs.State.{Bufs, lengths_of, of_answer}
-use Rattle.store.specs.declared.filed.Placed.{Placed}
-use Rattle.store.specs.declared.filed.Placed.TheVariants.{At, Nowhere}
-use Rattle.store.specs.declared.show.Seek.{Seek}
-use Rattle.store.specs.declared.show.Seek.TheVariants.{Fail, Record}
-use Rattle.store.specs.declared.state.Answer as code
-use Rattle.store.specs.declared.state.Answer.TheVariants as answered
 use Rattle.store.specs.declared.state.Cell.{Cell}
 use Rattle.store.specs.declared.state.Shared.{Shared}
 use Rattle.store.specs.declared.state.Store.{Store}
@@ -43,81 +35,36 @@ use Rattle.store.proofs.Laws.Parts.{part_is}
 
 -- ---- the coordinate of a vertex
 
-pub from_most : (s : Shared) (runs : List ℕ) (at n v : ℕ) → 16777215 < n → none ≡ coord_from s runs at n v
+pub from_there : (s : Shared) (runs : List ℕ) (at n v : ℕ) → n ≤ 16777215 → at ≤ s.runs.used → (a : Answer) → a ≡ sharp_colour n v (take (s.runs.used - at) (drop at runs)) → told_coord a ≡ coord_from s runs at n v
 unfolding coord_from ◌when◌else◌
-from_most s runs at n v h = rw (lt-ltb _ _ h)
-
-pub from_far : (s : Shared) (runs : List ℕ) (at n v : ℕ) → n ≤ 16777215 → s.runs.used < at → none ≡ coord_from s runs at n v
-unfolding coord_from ◌when◌else◌
-from_far s runs at n v h k = rw (le-ltb _ _ h, lt-ltb _ _ k)
-
-pub from_there : (r : Colored) (s : Shared) (runs : List ℕ) (at n v : ℕ) → n ≤ 16777215 → at ≤ s.runs.used → of_colored r ≡ sharp_colour n v (take (s.runs.used - at) (drop at runs)) → told_coord (of_colored r) ≡ coord_from s runs at n v
-unfolding coord_from ◌when◌else◌
-from_there r s runs at n v h k e = ap (λ (x : Answer). told_coord x) e ∙ rw (le-ltb _ _ h, le-ltb _ _ k, part_is at s.runs.used runs k)
-
-pub ruleset froms = (from_most, from_far, from_there)
+from_there s runs at n v h k a e = ap (λ (x : Answer). told_coord x) e ∙ rw (le-ltb _ _ h, le-ltb _ _ k, part_is at s.runs.used runs k)
 
 -- ---- 14, 5
-
-pub place_unitig : (s : Shared) (table : List ℕ) (u v : ℕ) → s.unitigs ≤ u → true ≡ no_place s table u v
-unfolding no_place
-place_unitig s table u v h = rw (le-leb _ _ h)
-
-pub place_vertex : (s : Shared) (table : List ℕ) (u v : ℕ) → u < s.unitigs → leb (get_or table (2 * u + 1) 0) v ≡ no_place s table u v
-unfolding no_place
-place_vertex s table u v h = rw (lt-leb _ _ h)
 
 pub place_counted : (r : Bool) (s : Shared) (table : List ℕ) (u v : ℕ) → r ≡ no_place s table u v → r ≡ false → u < s.unitigs
 unfolding no_place
 place_counted r s table u v e h = leb-false _ _ (or_none _ _ (via e h)).0
 
-pub start_uncolored : (x : Colored) (r : Refusal) (c : Cell) (index : List ℕ) → x ≡ colored.Refused r → none ≡ place_by c index (told_coord (of_colored x))
-unfolding place_by
-start_uncolored x r c index e = rw e
-
-pub start_colored : (x : Colored) (coord : ℕ) (p : Placed) (c : Cell) (index : List ℕ) → x ≡ colored.At coord → of_placed p ≡ record_start c index coord → of_placed p ≡ place_by c index (told_coord (of_colored x))
-unfolding place_by
-start_colored x coord p c index e h = rw e h
-
-module _ (r : Bool) (s : Store) (index runs table : List ℕ) (u v : ℕ) (e : r ≡ no_place s.shared table u v) where
-  pub seek_place : r ≡ true → Fail Place ≡ seek_of s index runs table u v
-  unfolding seek_of ◌when◌else◌
-  seek_place h = rw (via e h)
-
-  module _ (x : Colored) (p : Placed) (h : r ≡ false) (k : told_coord (of_colored x) ≡ vertex_coord s.shared runs table u v) (m : of_placed p ≡ place_by s.cell index (told_coord (of_colored x))) where
-    placed : of_placed p ≡ place_by s.cell index (vertex_coord s.shared runs table u v)
-    placed = m ∙ ap (place_by s.cell index) k
-
-    pub seek_found : (at : ℕ) → p ≡ At at → Record at ≡ seek_of s index runs table u v
-    unfolding seek_of seek_by ◌when◌else◌
-    seek_found at q = rw (via e h, sym placed ∙ ap (λ (x : Placed). of_placed x) q)
-
-    pub seek_none : p ≡ Nowhere → Fail Damaged ≡ seek_of s index runs table u v
-    unfolding seek_of seek_by ◌when◌else◌
-    seek_none q = rw (via e h, sym placed ∙ ap (λ (x : Placed). of_placed x) q)
-
-pub ruleset seeks = (seek_place, seek_found, seek_none)
-
 -- a record that is found begins within what is used
 start_in : (c : Cell) (index : List ℕ) (o : Option ℕ) (at : ℕ) → place_by c index o ≡ some at → at ≤ c.records.used
 unfolding place_by
 start_in c index none at e = let z : ◌≡◌ {A = ℕ} 0 1 = cc in absurd (omega arith)
-start_in c index (some coord) at e = start_within (At at) at c index coord (sym e) refl
+start_in c index (some coord) at e = start_within at c index coord (sym e)
 
-seek_by_lem : (o : Option ℕ) (at : ℕ) → seek_by o ≡ Record at → o ≡ some at
+seek_by_lem : (o : Option ℕ) (at : ℕ) → seek_by o ≡ Ok at → o ≡ some at
 unfolding seek_by
 seek_by_lem none at e = let z : ◌≡◌ {A = ℕ} 0 1 = cc in absurd (omega arith)
 seek_by_lem (some x) at e = let z : x ≡ at = cc in ap some z
 
-record_by : (t : Bool) (k : Seek) (at : ℕ) → ◌when◌else◌ (Fail Place) t k ≡ Record at → (t ≡ false) × (k ≡ Record at)
+record_by : (t : Bool) (k : Result ℕ Refusal) (at : ℕ) → ◌when◌else◌ (Err Place) t k ≡ Ok at → (t ≡ false) × (k ≡ Ok at)
 unfolding ◌when◌else◌
 record_by true k at e = let z : ◌≡◌ {A = ℕ} 0 1 = cc in absurd (omega arith)
 record_by false k at e = (refl, e)
 
-pub record_in : (k : Seek) (at : ℕ) (s : Store) (index runs table : List ℕ) (u v : ℕ) → k ≡ seek_of s index runs table u v → k ≡ Record at → at ≤ s.cell.records.used
+pub record_in : (at : ℕ) (s : Store) (index runs table : List ℕ) (u v : ℕ) → Ok at ≡ seek_of s index runs table u v → at ≤ s.cell.records.used
 unfolding seek_of
-record_in k at s index runs table u v e h =
-    let d = record_by _ _ at (via e h) in
+record_in at s index runs table u v e =
+    let d = record_by _ _ at (sym e) in
     start_in s.cell index _ at (seek_by_lem _ at d.1)
 
 -- ---- the record is read
@@ -129,12 +76,6 @@ space_is r e = when_yes _ _ _ (eq-eqb (number_of r) 3 e)
 damage_is : (r : Refusal) → (number_of r ≡ 3 → ⊥) → damage_or r ≡ Damaged
 unfolding damage_or
 damage_is r n = when_no _ _ _ (ne_eqb (number_of r) 3 n)
-
-pub space_kept : (k : ℕ) (r : Refusal) → k ≡ number_of r → k ≡ 3 → Space ≡ damage_or r
-space_kept k r e h = sym (space_is r (sym e ∙ h))
-
-pub space_not : (k : ℕ) (r : Refusal) → k ≡ number_of r → (k ≡ 3 → ⊥) → Damaged ≡ damage_or r
-space_not k r e n = sym (damage_is r (λ q. n (e ∙ q)))
 
 read_space : (g : Given) → of_given g ≡ answer.refused 3 → of_answer (of_read g) ≡ answer.refused 3
 read_space (given.Done items bytes) e = let z : ◌≡◌ {A = ℕ} 0 1 = cc in absurd (omega arith)
@@ -167,17 +108,11 @@ shown_by_lem records.damaged g total out' out e =
     let n : ◌≡◌ {A = ℕ} 5 3 → ⊥ = λ z. omega arith in
     ap₂ pair (read_damage g 5 n (ap (λ (x : Answer × List ℕ). x.0) e)) (ap (λ (x : Answer × List ℕ). x.1) e)
 
-pub read_given : (g : Given) (items taken : ℕ) → g ≡ given.Done items taken → answered.Done items ≡ of_read g
-read_given g items taken e = rw e
-
-pub read_refused : (g : Given) (r q : Refusal) → g ≡ given.Refused r → q ≡ damage_or r → answered.Refused q ≡ of_read g
-read_refused g r q e h = rw (e, h)
-
-pub given_set : (g : Given) (a : code.Answer) (N : ℕ) (c : Cell) (file out' out : List ℕ) (at : ℕ) → at ≤ c.records.used → bad_colors N ≡ false → a ≡ of_read g
+pub given_set : (g : Given) (a : Result ℕ Refusal) (N : ℕ) (c : Cell) (file out' out : List ℕ) (at : ℕ) → at ≤ c.records.used → bad_colors N ≡ false → a ≡ of_read g
     → ◌≡◌ {A = Answer × List ℕ} (of_given g, out') (read_into N (take (c.records.used - at) (drop at file)) out) → ◌≡◌ {A = Answer × List ℕ} (of_answer a, out') (shown_by (set_from N c file (some at)) out)
 unfolding read_into set_from
 given_set g a N c file out' out at h b k e =
-    ap (λ (x : code.Answer). pair (of_answer x) out') k
+    ap (λ (x : Result ℕ Refusal). pair (of_answer x) out') k
     ∙ shown_by_lem (read_record N (drop at (take c.records.used file))) g (length (take (c.records.used - at) (drop at file))) out' out
     (e ∙ when_no _ _ _ b ∙ ap (λ (l : List ℕ). read_by (read_record N l) (length (take (c.records.used - at) (drop at file))) out) (part_is at c.records.used file h))
 
@@ -188,7 +123,7 @@ unfolding by_seek seek_by set_from shown_by
 shown_seek s file none out = refl
 shown_seek s file (some at) out = refl
 
-seek_is : (t : Bool) (s : Store) (file : List ℕ) (o : Option ℕ) (out : List ℕ) → by_seek s file (◌when◌else◌ (Fail Place) t (seek_by o)) out ≡ ◌when◌else◌ (pair (answer.refused 14) out) t (shown_by (set_from s.colors s.cell file o) out)
+seek_is : (t : Bool) (s : Store) (file : List ℕ) (o : Option ℕ) (out : List ℕ) → by_seek s file (◌when◌else◌ (Err Place) t (seek_by o)) out ≡ ◌when◌else◌ (pair (answer.refused 14) out) t (shown_by (set_from s.colors s.cell file o) out)
 unfolding ◌when◌else◌ by_seek
 seek_is true s file o out = refl
 seek_is false s file o out = shown_seek s file o out
@@ -206,22 +141,14 @@ show_is s b u v out e =
     ∙ ap (λ (x : Option (List ℕ)). ◌when◌else◌ (pair (answer.refused 14) out) (no_place s.shared b.shared.table u v) (shown_by x out)) (sym (set_by_lem s.colors s.cell b.cell.records b.cell.index o))
     ∙ sym (seek_is (no_place s.shared b.shared.table u v) s b.cell.records (place_by s.cell b.cell.index o) out)
 
-module _ (r : Bool) (s : Store) (b : Bufs) (u v : ℕ) (out : List ℕ) (e : r ≡ altered s (lengths_of b)) where
-  pub show_altered : r ≡ true → ◌≡◌ {A = Answer × Store × List ℕ} (answer.refused 15, s, out) (with_state s (show_step s b u v out))
+module _ (q : Bool) (s : Store) (b : Bufs) (u v : ℕ) (out : List ℕ) (l : Lengths) (d : l ≡ lengths_of b) (e : q ≡ altered s l) where
+  pub show_altered : q ≡ true → ◌≡◌ {A = Answer × Store × List ℕ} (answer.refused 15, s, out) (with_state s (show_step s b u v out))
   unfolding show_step
-  show_altered h = ap (λ (x : Answer × List ℕ). with_state s x) (sym (when_yes _ _ _ (via e h)))
+  show_altered h = ap (λ (x : Answer × List ℕ). with_state s x) (sym (when_yes _ _ _ (ap (λ (m : Lengths). altered s m) (sym d) ∙ via e h)))
 
-  module _ (k : Seek) (h : r ≡ false) (m : k ≡ seek_of s b.cell.index b.shared.runs b.shared.table u v) where
-    sought : (j : Seek) → k ≡ j → by_seek s b.cell.records j out ≡ show_step s b u v out
-    sought j n = sym (show_is s b u v out (via e h) ∙ ap (λ (y : Seek). by_seek s b.cell.records y out) (via m n))
+  module _ (h : q ≡ false) (k : Result ℕ Refusal) (m : k ≡ seek_of s b.cell.index b.shared.runs b.shared.table u v) where
+    sought : by_seek s b.cell.records k out ≡ show_step s b u v out
+    sought = ap (λ (y : Result ℕ Refusal). by_seek s b.cell.records y out) m ∙ sym (show_is s b u v out (ap (λ (n : Lengths). altered s n) (sym d) ∙ via e h))
 
-    pub show_fail : (q : Refusal) → k ≡ Fail q → ◌≡◌ {A = Answer × Store × List ℕ} (answer.refused (number_of q), s, out) (with_state s (show_step s b u v out))
-    unfolding by_seek
-    show_fail q n = ap (λ (x : Answer × List ℕ). with_state s x) (sought (Fail q) n)
-
-    pub show_record : (at : ℕ) (a : Answer) (out' : List ℕ) → k ≡ Record at
-        → ◌≡◌ {A = Answer × List ℕ} (a, out') (shown_by (set_from s.colors s.cell b.cell.records (some at)) out) → ◌≡◌ {A = Answer × Store × List ℕ} (a, s, out') (with_state s (show_step s b u v out))
-    unfolding by_seek
-    show_record at a out' n d = ap (λ (x : Answer × List ℕ). with_state s x) (d ∙ sought (Record at) n)
-
-pub ruleset shows_cases = (show_altered, show_fail, show_record)
+    pub shown_whole : (a : Answer) (out' : List ℕ) → ◌≡◌ {A = Answer × List ℕ} (a, out') (by_seek s b.cell.records k out) → ◌≡◌ {A = Answer × Store × List ℕ} (a, s, out') (with_state s (show_step s b u v out))
+    shown_whole a out' p = ap (λ (x : Answer × List ℕ). with_state s x) (p ∙ sought)

@@ -8,10 +8,9 @@ use Rattle.store.specs.Add.{add_cell, add_step, add_test, after_add}
 use Rattle.store.specs.Close.{after_close, close_cell, close_step, close_test}
 use Rattle.store.specs.Demand.{LentCall, Seen, all_seen, as_seen, out_of, seen, sent, showing, store_run, store_step, store_update, updated, updating, way_of}
 use Rattle.store.specs.Join.{after_join, join_cell, join_step, join_test}
-use Rattle.store.specs.Numbered.{by_gate, numbered}
+use Rattle.store.specs.Numbered.{Test, by_gate, numbered}
 use Rattle.store.specs.Plain.{Plain, Reply, Update, Verdict, accept, accepted, add, close, effect, join, plain_run, plain_step, plain_update, refuse, repeat, tests, verdict}
 use Rattle.store.specs.State.{Bufs, Outcome}
-use Rattle.store.specs.declared.numbered.Gate.{Gate}
 use Rattle.store.specs.declared.state.Store.{Store}
 use Rattle.store.proofs.Laws.Adds.{add_answer, add_kept, add_tests_lem}
 use Rattle.store.proofs.Laws.Closes.{close_answer, close_kept, close_tests_lem}
@@ -39,7 +38,7 @@ module _ {p : Plain} {s : Store} {b : Bufs} (r : Rep p s b) where
   by_found i u told go into t (repeat a) k = rw (t _) (record { same = refl; rep = r })
   by_found i u told go into t accept k = record { same = ap (λ (a : Answer). seen a []) (k refl).0; rep = (k refl).1 }
 
-  by_tests : {R : Type 0} (i : ℕ) (u : Update) (g : Gate) (told : Answer → R) (go : R) (into : R → Outcome) → ((a : Answer) → into (told a) ≡ (a, s, b)) → as_verdict g ≡ tests p u → (tests p u ≡ accept → Kept p i u (into go))
+  by_tests : {R : Type 0} (i : ℕ) (u : Update) (g : Test) (told : Answer → R) (go : R) (into : R → Outcome) → ((a : Answer) → into (told a) ≡ (a, s, b)) → as_verdict g ≡ tests p u → (tests p u ≡ accept → Kept p i u (into go))
       → Okay (updating i u) (updated (into (by_gate (numbered s.cell i (same_update s.colors s.cell b.cell u) g) told go))) (plain_update (verdict p i u) p i u)
   by_tests i u g told go into t e k =
       rw (by_verdict_lem (numbered s.cell i (same_update s.colors s.cell b.cell u) g) told go, verdicts_agree r i u g e)

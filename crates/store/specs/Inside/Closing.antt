@@ -1,21 +1,20 @@
 -- A close as the code goes: the table's space is tested first, and writing the run bytes tells whether they fit.
-use Rattle.std.specs.Prelude.{ℕ, ◌+◌, ◌*◌, List, [], ◌∷◌, length, take, ltb}
+use Rattle.std.specs.Prelude.{ℕ, ◌+◌, ◌*◌, List, [], ◌∷◌, length, take, ltb, Ok, Err}
 use Rattle.base.specs.Answers.{Answer, done, refused}
 use Rattle.base.specs.Tests.{◌when◌else◌}
 use Rattle.base.specs.declared.Refusal.TheVariants.{Space}
 use Rattle.store.specs.Close.{close_filed, close_open, filed_bytes}
+use Rattle.store.specs.Numbered.{Test}
 use Rattle.store.specs.State.{put}
-use Rattle.store.specs.declared.numbered.Gate.{Gate}
-use Rattle.store.specs.declared.numbered.Gate.TheVariants.{Go, Refuse}
 use Rattle.store.specs.declared.state.Cell.{Cell}
 use Rattle.store.specs.declared.state.Shared.{Shared}
 use Rattle.store.specs.declared.state.Way.{Way}
 
 -- 13, 5, and 3 of the table
-unfoldable pub table_test : Cell → Shared → (opened : List ℕ) → Gate
+unfoldable pub table_test : Cell → Shared → (opened : List ℕ) → Test
 table_test c s opened =
     close_open c.current (take c.opened.used opened)
-    (Refuse Space when ltb s.table (2 * s.unitigs + 2) else Go)
+    (Err Space when ltb s.table (2 * s.unitigs + 2) else Ok tt)
 
 -- bytes behind the used ones, or 3
 unfoldable pub bytes_into : List ℕ → ℕ → List ℕ → Answer × List ℕ

@@ -1,5 +1,5 @@
 -- What is known of a state and its buffers where 15 is not found, and where a call may go.
-use Rattle.std.specs.Prelude.{ℕ, ◌+◌, ◌*◌, ◌≤◌, ◌<◌, ◌≡◌, Bool, true, false, List, length, take}
+use Rattle.std.specs.Prelude.{ℕ, ◌+◌, ◌*◌, ◌≤◌, ◌<◌, ◌≡◌, Bool, true, false, List, length, take, Ok}
 use Rattle.codec.specs.Records.{bad_colors, record_of}
 use Rattle.codec.specs.Sets.{within}
 use Rattle.runs.specs.Orders.{most_vertices, sharp}
@@ -9,7 +9,6 @@ use Rattle.store.specs.Close.{count_of}
 use Rattle.store.specs.Join.{open_at, open_count, open_new, open_test}
 use Rattle.store.specs.Plain.{Lengths}
 use Rattle.store.specs.State.{put}
-use Rattle.store.specs.declared.numbered.Gate.TheVariants.{Go}
 use Rattle.store.specs.declared.state.Current.TheVariants.{Open}
 use Rattle.store.specs.declared.state.Cell.{Cell}
 use Rattle.store.specs.declared.state.Shared.{Shared}
@@ -64,7 +63,7 @@ pub record OpenReady (c : Cell) (n : ℕ) (reversed : Bool) (piece opened : List
   pub is_sharp : sharp n piece ≡ true
   pub current : bad_current c.current ≡ false
   pub used : c.opened.used ≤ length opened
-  pub meets : open_test c.current (take c.opened.used opened) (oriented reversed n piece) Go ≡ Go
+  pub meets : open_test c.current (take c.opened.used opened) (oriented reversed n piece) (Ok tt) ≡ Ok tt
   pub room : open_at c.current c.opened.used + length (open_new c.current (take c.opened.used opened) (oriented reversed n piece)) ≤ length opened
 
 pub record JoinReady (c : Cell) (n : ℕ) (reversed : Bool) (piece opened : List ℕ) (held : ℕ) : Type 0 where

@@ -1,9 +1,7 @@
--- Where a record begins, if there is one.
-use Rattle.std.specs.Prelude.{ℕ}
-use Rattle.std.proofs.Math.Option.{Option, none, some}
-use Rattle.store.specs.declared.filed.Placed.{Placed}
-use Rattle.store.specs.declared.filed.Placed.TheVariants.{At, Nowhere}
+-- A place or a coordinate, if there is one.
+use Rattle.std.specs.Prelude.{ℕ, Option, Some, None}
+use Rattle.std.proofs.Math.Option as plain
 
-abbrev pub of_placed : Placed → Option ℕ
-of_placed (At place) = some place
-of_placed Nowhere = none
+abbrev pub option_of : Option ℕ → plain.Option ℕ
+option_of (Some x) = plain.some x
+option_of None = plain.none

@@ -1,5 +1,5 @@
 -- A show as the code goes: the tests, then the record.
-use Rattle.std.specs.Prelude.{ℕ, List, eqb}
+use Rattle.std.specs.Prelude.{ℕ, List, eqb, Result, Ok, Err}
 use Rattle.std.proofs.Math.Option.{Option, none, some}
 use Rattle.base.specs.Answers.{Answer, number_of, refused}
 use Rattle.base.specs.Tests.{◌when◌else◌}
@@ -9,10 +9,6 @@ use Rattle.base.specs.declared.Refusal.{Refusal}
 use Rattle.base.specs.declared.Refusal.TheVariants.{Damaged, Place, Space}
 use Rattle.store.specs.Filed.{record_start, set_from}
 use Rattle.store.specs.Show.{no_place, shown_by, vertex_coord}
-use Rattle.store.specs.declared.show.Seek.{Seek}
-use Rattle.store.specs.declared.show.Seek.TheVariants.{Fail, Record}
-use Rattle.store.specs.declared.state.Answer as code
-use Rattle.store.specs.declared.state.Answer.TheVariants as answered
 use Rattle.store.specs.declared.state.Cell.{Cell}
 use Rattle.store.specs.declared.state.Store.{Store}
 
@@ -21,23 +17,23 @@ unfoldable pub place_by : Cell → (index : List ℕ) → Option ℕ → Option 
 place_by c index none = none
 place_by c index (some coord) = record_start c index coord
 
-unfoldable pub seek_by : Option ℕ → Seek
-seek_by none = Fail Damaged
-seek_by (some at) = Record at
+unfoldable pub seek_by : Option ℕ → Result ℕ Refusal
+seek_by none = Err Damaged
+seek_by (some at) = Ok at
 
-unfoldable pub seek_of : Store → (index runs table : List ℕ) → ℕ → ℕ → Seek
+unfoldable pub seek_of : Store → (index runs table : List ℕ) → ℕ → ℕ → Result ℕ Refusal
 seek_of s index runs table unitig vertex =
-    Fail Place when no_place s.shared table unitig vertex else
+    Err Place when no_place s.shared table unitig vertex else
     seek_by (place_by s.cell index (vertex_coord s.shared runs table unitig vertex))
 
-unfoldable pub by_seek : Store → (file : List ℕ) → Seek → List ℕ → Answer × List ℕ
-by_seek s file (Fail r) out = (refused (number_of r), out)
-by_seek s file (Record at) out = shown_by (set_from s.colors s.cell file (some at)) out
+unfoldable pub by_seek : Store → (file : List ℕ) → Result ℕ Refusal → List ℕ → Answer × List ℕ
+by_seek s file (Err r) out = (refused (number_of r), out)
+by_seek s file (Ok at) out = shown_by (set_from s.colors s.cell file (some at)) out
 
 -- reading a record is refused for want of space (3), or because it is damaged in some way (5)
 unfoldable pub damage_or : Refusal → Refusal
 damage_or r = Space when eqb (number_of r) 3 else Damaged
 
-abbrev pub of_read : Given → code.Answer
-of_read (given.Done items bytes) = answered.Done items
-of_read (given.Refused r) = answered.Refused (damage_or r)
+abbrev pub of_read : Given → Result ℕ Refusal
+of_read (given.Done items bytes) = Ok items
+of_read (given.Refused r) = Err (damage_or r)

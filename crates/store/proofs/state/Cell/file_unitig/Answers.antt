@@ -1,4 +1,5 @@
 use native.Mathlib.Omega.{arith}
+use Rattle.store.specs.State.{after, with_unitig}
 use Rattle.store.proofs.Laws.Closing.{second_number, filed_full, filed_done, filed_small}
 use Rattle.store.proofs.state.Cell.file_unitig.Goals as goal
 
@@ -11,11 +12,12 @@ returns-in_default c = search (filed_full)
 pub bounds-table-unitigs-2 : goal.bounds-table-unitigs-2
 bounds-table-unitigs-2 c = search (second_number)
 
-pub overflow_add-at : goal.overflow_add-at
-overflow_add-at c = omega (arith, filed_small _ _ _ _ _ _ _ _ _ c.requires c.vertices-n.ensures c.file_runs.ensures _ c.in-Done.is)
+pub overflow_add-closed : goal.overflow_add-closed
+overflow_add-closed c = omega (arith, filed_small _ _ _ _ _ _ _ _ _ c.requires c.vertices-n.ensures c.file_runs.ensures _ c.in-Done.is)
 
-pub overflow_add-shared : goal.overflow_add-shared
-overflow_add-shared c = let a = c.requires in omega (arith, a.pair, a.small_table)
+pub overflow_add-closed-2 : goal.overflow_add-closed-2
+overflow_add-closed-2 c = let a = c.requires in omega (arith, a.pair, a.small_table)
 
 pub returns : goal.returns
-returns c = filed_done _ _ _ _ _ _ _ _ _ c.requires c.vertices-n.ensures c.file_runs.ensures _ _ _ _ _ c.in-Done.is c.after-cell.ensures c.with_unitig-closed.ensures
+unfolding after with_unitig
+returns c = filed_done _ _ _ _ _ _ _ _ _ c.requires c.vertices-n.ensures c.file_runs.ensures _ _ _ c.in-Done.is

@@ -1,5 +1,7 @@
+use Rattle.store.specs.State.{after}
 use Rattle.store.proofs.Laws.Joining.{joined_filed}
 use Rattle.store.proofs.state.Cell.join_piece.Goals as goal
 
 pub returns : goal.returns
-returns c = joined_filed _ _ _ _ _ _ c.requires _ _ _ _ _ _ _ c.put_open-total.ensures c.orient_color_runs.ensures c.new_count-count.ensures c.after-cell.ensures
+unfolding after
+returns c = joined_filed _ _ _ _ _ _ c.requires _ _ _ _ _ _ c.put_open-total.ensures c.orient_color_runs.ensures c.new_count-count.ensures

@@ -1,11 +1,8 @@
-use Rattle.store.proofs.Laws.Showing.{froms}
+use Rattle.store.proofs.Laws.Showing.{from_there}
 use Rattle.store.proofs.state.Shared.color_from.Goals as goal
 
-pub returns-then-n-gt16777215 : goal.returns-then-n-gt16777215
-returns-then-n-gt16777215 c = search froms
+pub returns-in-At : goal.returns-in-At
+returns-in-At c = from_there _ _ _ _ _ c.if-n-gt16777215.false c.if-end-at.false _ c.in-At.ensures
 
-pub returns-then-end-at : goal.returns-then-end-at
-returns-then-end-at c = search froms
-
-pub returns : goal.returns
-returns c = search froms
+pub returns-in-Refused : goal.returns-in-Refused
+returns-in-Refused c = from_there _ _ _ _ _ c.if-n-gt16777215.false c.if-end-at.false _ c.in-Refused.ensures

@@ -1,14 +1,9 @@
-use Rattle.store.specs.Add.{add_step}
-use Rattle.store.proofs.Laws.Tested.{said_unaltered, whens}
+use Rattle.store.proofs.Laws.Tested.{said_unaltered}
 use Rattle.store.proofs.Laws.Calls.{added}
 use Rattle.store.proofs.state.Store.add.Goals as goal
 
-pub returns-then-altered : goal.returns-then-altered
-unfolding add_step
-returns-then-altered c = search whens
-
-pub add-requires : goal.add-requires
-add-requires c = (said_unaltered _ _ _ c.altered.ensures c.if-altered.false).add
+pub add-told-requires : goal.add-told-requires
+add-told-requires c = (said_unaltered _ _ _ _ c.of.ensures c.altered.ensures c.if-altered.false).add
 
 pub returns : goal.returns
-returns c = search (added)
+returns c = added _ _ _ _ _ _ _ c.of.ensures _ _ c.altered.ensures c.if-altered.false _ _ _ _ _ _ c.add-told.ensures

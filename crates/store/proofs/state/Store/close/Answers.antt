@@ -1,14 +1,9 @@
-use Rattle.store.specs.Close.{close_step}
+use Rattle.store.proofs.Laws.Tested.{said_unaltered}
 use Rattle.store.proofs.Laws.Calls.{closed}
-use Rattle.store.proofs.Laws.Tested.{said_unaltered, whens}
 use Rattle.store.proofs.state.Store.close.Goals as goal
 
-pub returns-then-altered : goal.returns-then-altered
-unfolding close_step
-returns-then-altered c = search whens
-
-pub close-requires : goal.close-requires
-close-requires c = let o = said_unaltered _ _ _ c.altered.ensures c.if-altered.false in o.close
+pub close-told-requires : goal.close-told-requires
+close-told-requires c = (said_unaltered _ _ _ _ c.of.ensures c.altered.ensures c.if-altered.false).close
 
 pub returns : goal.returns
-returns c = search (closed)
+returns c = closed _ _ _ _ _ _ _ c.of.ensures _ _ c.altered.ensures c.if-altered.false _ _ _ _ _ _ _ c.close-told.ensures

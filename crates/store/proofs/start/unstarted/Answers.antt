@@ -1,4 +1,0 @@
-use Rattle.store.proofs.start.unstarted.Goals as goal
-
-pub returns : goal.returns
-returns c = cc
