@@ -1,20 +1,19 @@
 -- Calls as numbers, and what running a list of them leaves.
-use Rattle.std.specs.Prelude.{ℕ, zero, suc, ◌+◌, ◌-◌, ◌*◌, ◌/◌, min, ◌≡◌, not, List, [], ◌∷◌, ◌++◌, map, length, get_or, take, drop, ltb, eqb}
+use Rattle.std.specs.Prelude.{ℕ, zero, suc, ◌+◌, ◌-◌, ◌*◌, ◌/◌, min, ◌≡◌, not, List, [], ◌∷◌, ◌++◌, map, length, get_or, take, drop, ltb, eqb, Result, Ok, Err}
 use Rattle.base.specs.Tests.{◌when◌else◌}
 use Rattle.base.specs.Answers.{Answer, refused, done, number_of}
 use Rattle.base.specs.Parts.{over}
 use Rattle.codec.specs.Flat.{flat}
 use Rattle.store.specs.Plain.{add, join, close, line, cycle}
-use Rattle.store.specs.State.{Bufs, lengths_of, of_answer}
+use Rattle.store.specs.State.{Bufs, lengths_of}
 use Rattle.store.specs.Start.{start_step}
 use Rattle.store.specs.Demand.{LentCall, updating, showing, Seen, store_run, Demand3}
 use Rattle.store.specs.declared.state.Store.{Store}
-use Rattle.store.specs.declared.state.Told.{Told}
+use Rattle.store.specs.declared.state.Way.TheVariants.{Line, Cycle}
 use Rattle.replay.specs.declared.Head.{Head}
-use Rattle.replay.specs.declared.Span.{Span}
-use Rattle.replay.specs.declared.Noted.{Noted}
-use Rattle.base.specs.declared.Made.{Made}
-use Rattle.base.specs.declared.Made.TheVariants as made
+use Rattle.replay.specs.declared.Call.{Call}
+use Rattle.replay.specs.declared.Call.TheVariants as call
+use Rattle.base.specs.declared.Refusal.{Refusal}
 
 -- ---- what is told of a call
 
@@ -25,9 +24,6 @@ refusal_of (done values) = 0
 abbrev pub value_of : Answer → ℕ
 value_of (refused n) = 0
 value_of (done values) = get_or values 0 0
-
-abbrev pub noted_of : Told → Noted
-noted_of t = record { store = t.store; refusal = refusal_of (of_answer t.answer); answer = value_of (of_answer t.answer) }
 
 abbrev pub refusal_in : Seen → ℕ
 refusal_in x = refusal_of x.answer
@@ -40,11 +36,8 @@ out_in x = x.out
 
 -- ---- a call as six numbers
 
-abbrev pub part : List ℕ → ℕ → ℕ → List ℕ
+abbrev pub part : {A : Type 0} → List A → ℕ → ℕ → List A
 part pool from count = take count (drop from pool)
-
-abbrev pub span_of : ℕ → ℕ → ℕ → Span
-span_of from count len = record { from = min from len; end = min from len + min count (len - min from len) }
 
 abbrev pub head_at : List ℕ → ℕ → Head
 head_at words i =
@@ -70,6 +63,29 @@ lent_of h ids pieces out =
 unfoldable pub room_of : Head → ℕ → ℕ
 room_of h left = 0 when ltb h.kind 4 else min h.count left
 
+-- ---- the same as the code goes: the numbers mean a call
+
+unfoldable pub call_of : Head → Call
+call_of h =
+    call.Add h.a h.from h.count when eqb h.kind 0 else
+    call.Join h.a h.b (not (eqb h.c 0)) h.from h.count when eqb h.kind 1 else
+    call.Close h.a Line when eqb h.kind 2 else
+    call.Close h.a (Cycle h.b) when eqb h.kind 3 else
+    call.Show h.a h.b h.count
+
+unfoldable pub lent_by : Call → (ids pieces out : List ℕ) → LentCall
+lent_by (call.Add i from count) ids pieces out = updating i (add (part ids from count))
+lent_by (call.Join i n reversed from count) ids pieces out = updating i (join n reversed (part pieces from count))
+lent_by (call.Close i Line) ids pieces out = updating i (close line)
+lent_by (call.Close i (Cycle pivot)) ids pieces out = updating i (close (cycle pivot))
+lent_by (call.Show unitig vertex count) ids pieces out = showing unitig vertex out
+
+unfoldable pub room_by : Call → ℕ → ℕ
+room_by (call.Add i from count) left = 0
+room_by (call.Join i n reversed from count) left = 0
+room_by (call.Close i way) left = 0
+room_by (call.Show unitig vertex count) left = min count left
+
 -- ---- a list of calls
 
 -- the places that the shows of a list are lent
@@ -87,20 +103,9 @@ unfoldable pub calls_to : (words ids pieces shown : List ℕ) → ℕ → List L
 calls_to words ids pieces shown zero = []
 calls_to words ids pieces shown (suc i) = calls_to words ids pieces shown i ++ (call_at words ids pieces shown i (lent_to (calls_to words ids pieces shown i)) ∷ [])
 
--- ---- one call
-
-abbrev pub told_of : Seen × Store × Bufs → ℕ × ℕ × Store × Bufs
-told_of x = (refusal_in x.0, value_in x.0, x.1, x.2)
-
 -- a list with `out` in place of `room` elements from `at` on
 abbrev pub placed : ℕ → ℕ → List ℕ → List ℕ → List ℕ
 placed at room out shown = take at shown ++ (out ++ drop room (drop at shown))
-
-abbrev pub shown_of : Store → Answer × List ℕ → ℕ → ℕ → List ℕ → ℕ × ℕ × Store × List ℕ
-shown_of s x at room shown = (refusal_of x.0, value_of x.0, s, placed at room x.1 shown)
-
-abbrev pub one_of : Seen × Store × Bufs → ℕ → ℕ → List ℕ → ℕ × ℕ × Store × Bufs × List ℕ
-one_of x at room shown = (refusal_in x.0, value_in x.0, x.1, x.2, placed at room (out_in x.0) shown)
 
 -- ---- the tape: the state, the store's buffers, and what is told
 
@@ -134,8 +139,8 @@ pub record Replayed (N W : ℕ) (calls : List LentCall) (b : Bufs) (x y z : List
   pub demand : Demand3 N W (lengths_of b) calls (store_run begun zeroed calls)
 
 -- a refused start leaves everything as it was, and the state that start hands back
-abbrev pub session_claim : Made → Store → (N W : ℕ) → (words ids pieces : List ℕ) → Bufs → (x y z : List ℕ) → Bufs → (x' y' z' : List ℕ) → Type 0
-session_claim (made.Refused r) s N W words ids pieces b x y z b' x' y' z' =
+abbrev pub session_claim : Result (Unit {0}) Refusal → Store → (N W : ℕ) → (words ids pieces : List ℕ) → Bufs → (x y z : List ℕ) → Bufs → (x' y' z' : List ℕ) → Type 0
+session_claim (Err r) s N W words ids pieces b x y z b' x' y' z' =
     (start_step N W b ≡ (refused (number_of r), s, b)) × (b' ≡ b) × (x' ≡ x) × (y' ≡ y) × (z' ≡ z)
-session_claim made.Done s N W words ids pieces b x y z b' x' y' z' =
+session_claim (Ok _) s N W words ids pieces b x y z b' x' y' z' =
     Replayed N W (calls_to words ids pieces z (count_of words x y)) b x y z (tape s b' x' y' z')

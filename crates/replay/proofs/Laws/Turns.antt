@@ -1,5 +1,5 @@
 -- One call more of a tape.
-use Prim.Native.Nat.{ℕ, zero, suc, ◌+◌, ◌-◌, ◌*◌, ◌<◌, ◌≤◌, min}
+use Prim.Native.Nat.{ℕ, zero, suc, ◌+◌, ◌-◌, ◌<◌, ◌≤◌, min}
 use mathlib.Core.Path.{◌≡◌, refl, sym, ap, ap₂, ◌∙◌}
 use mathlib.Core.Bool.{Bool, true, false, not}
 use mathlib.Core.List.{List, [], ◌∷◌, ◌++◌, map, map-append, append_assoc}
@@ -10,23 +10,25 @@ use native.Mathlib.Numerals.{add-one}
 use lib.ListN.{length, get_or, set, take, drop, length-append, length-map, length-drop}
 use lib.Seq.{drop-cons, set_at, take_at, drop_at, length-take-le}
 use lib.Dec.{ltb, eqb}
-use borrow.Author.Tests.{lt-ltb, le-ltb, eq-eqb, ne_eqb, ltb-false}
+use borrow.Rule.Slice.PartMut.{mid_of, put_mid}
+use borrow.Author.Tests.{le-ltb, ne_eqb, ltb-false}
 use Rattle.base.specs.Tests.{◌when◌else◌}
 use Rattle.base.specs.Answers.{Answer, refused, done}
 use Rattle.base.specs.Parts.{over}
 use Rattle.base.proofs.Parts.{length_over, over_behind}
-use Rattle.base.proofs.Tests.{when_yes, when_no}
 use Rattle.codec.specs.Flat.{flat}
 use Rattle.store.specs.Plain.{Update, add, join, close, line, cycle}
 use Rattle.store.specs.State.{Bufs, lengths_of}
 use Rattle.store.specs.Show.{show_step, shown_by, vertex_set, no_place}
 use Rattle.store.specs.Altered.{altered}
-use Rattle.store.specs.Demand.{LentCall, updating, showing, Seen, store_step, store_run}
+use Rattle.store.specs.Demand.{LentCall, updating, showing, Seen, seen, store_step, store_run}
 use Rattle.store.specs.declared.state.Store.{Store}
 use Rattle.store.proofs.Laws.Flats.{flat_more}
 use Rattle.replay.specs.declared.Head.{Head}
-use Rattle.replay.specs.declared.Noted.{Noted}
-use Rattle.replay.specs.Tape.{refusal_in, value_in, out_in, part, head_at, lent_of, room_of, lent_to, call_at, calls_to, placed, one_of, Tape, tape, keep}
+use Rattle.replay.specs.declared.Call.{Call}
+use Rattle.replay.specs.declared.Call.TheVariants as call
+use Rattle.store.specs.declared.state.Way.TheVariants.{Line, Cycle}
+use Rattle.replay.specs.Tape.{refusal_of, value_of, refusal_in, value_in, out_in, part, head_at, lent_of, room_of, call_of, lent_by, room_by, lent_to, call_at, calls_to, placed, Tape, tape, keep}
 
 -- ---- a list of calls with one more
 
@@ -97,53 +99,41 @@ outs_long s b (c ∷ cs) =
     ∙ ap₂ (λ (m n : ℕ). m + n) (out_long s b c) (outs_long (store_step s b c).1 (store_step s b c).2 cs)
     ∙ sym (lent_cons c cs)
 
--- ---- the places of a call
+-- ---- the call that a head's numbers mean, and the places that it is lent
 
-pub room_show : (h : Head) (left : ℕ) → 4 ≤ h.kind → room_of h left ≡ min h.count left
-unfolding room_of
-room_show h left k = when_no _ _ _ (le-ltb _ _ k)
+module _ (h : Head) where
+  pub lent_is : (ids pieces out : List ℕ) → lent_by (call_of h) ids pieces out ≡ lent_of h ids pieces out
+  unfolding call_of lent_of lent_by ◌when◌else◌
+  lent_is ids pieces out = go (eqb h.kind 0) (eqb h.kind 1) (eqb h.kind 2) (eqb h.kind 3)
+    where
+      go : (a b c d : Bool)
+          → lent_by (◌when◌else◌ (call.Add h.a h.from h.count) a (◌when◌else◌ (call.Join h.a h.b (not (eqb h.c 0)) h.from h.count) b (◌when◌else◌ (call.Close h.a Line) c (◌when◌else◌ (call.Close h.a (Cycle h.b)) d (call.Show h.a h.b h.count))))) ids pieces out
+          ≡ ◌when◌else◌ (updating h.a (add (part ids h.from h.count))) a (◌when◌else◌ (updating h.a (join h.b (not (eqb h.c 0)) (part pieces h.from h.count))) b (◌when◌else◌ (updating h.a (close line)) c (◌when◌else◌ (updating h.a (close (cycle h.b))) d (showing h.a h.b out))))
+      go true b c d = refl
+      go false true c d = refl
+      go false false true d = refl
+      go false false false true = refl
+      go false false false false = refl
 
-pub room_update : (h : Head) (left : ℕ) → h.kind < 4 → room_of h left ≡ 0
-unfolding room_of
-room_update h left k = when_yes _ _ _ (lt-ltb _ _ k)
+  pub room_is : (left : ℕ) → room_by (call_of h) left ≡ room_of h left
+  unfolding call_of room_of room_by ◌when◌else◌
+  room_is left = go h.kind
+    where
+      go : (k : ℕ)
+          → room_by (◌when◌else◌ (call.Add h.a h.from h.count) (eqb k 0) (◌when◌else◌ (call.Join h.a h.b (not (eqb h.c 0)) h.from h.count) (eqb k 1) (◌when◌else◌ (call.Close h.a Line) (eqb k 2) (◌when◌else◌ (call.Close h.a (Cycle h.b)) (eqb k 3) (call.Show h.a h.b h.count))))) left
+          ≡ ◌when◌else◌ 0 (ltb k 4) (min h.count left)
+      go zero = refl
+      go (suc zero) = refl
+      go (suc (suc zero)) = refl
+      go (suc (suc (suc zero))) = refl
+      go (suc (suc (suc (suc k)))) =
+          let a : suc (suc (suc (suc k))) ≡ 0 → ⊥ = λ z. omega arith in
+          let b : suc (suc (suc (suc k))) ≡ 1 → ⊥ = λ z. omega arith in
+          let c : suc (suc (suc (suc k))) ≡ 2 → ⊥ = λ z. omega arith in
+          let d : suc (suc (suc (suc k))) ≡ 3 → ⊥ = λ z. omega arith in
+          let l : 4 ≤ suc (suc (suc (suc k))) = omega arith in
+          rw (ne_eqb _ _ a, ne_eqb _ _ b, ne_eqb _ _ c, ne_eqb _ _ d, le-ltb _ _ l)
 
--- what each kind of call is
-module _ (h : Head) (ids pieces out : List ℕ) where
-  pub lent_add : h.kind ≡ 0 → lent_of h ids pieces out ≡ updating h.a (add (part ids h.from h.count))
-  unfolding lent_of
-  lent_add e = when_yes _ _ _ (eq-eqb _ _ e)
-
-  pub lent_join : h.kind ≡ 1 → lent_of h ids pieces out ≡ updating h.a (join h.b (not (eqb h.c 0)) (part pieces h.from h.count))
-  unfolding lent_of
-  lent_join e =
-      let n : h.kind ≡ 0 → ⊥ = λ z. omega arith in
-      when_no _ _ _ (ne_eqb _ _ n) ∙ when_yes _ _ _ (eq-eqb _ _ e)
-
-  pub lent_line : h.kind ≡ 2 → lent_of h ids pieces out ≡ updating h.a (close line)
-  unfolding lent_of
-  lent_line e =
-      let n : h.kind ≡ 0 → ⊥ = λ z. omega arith in
-      let m : h.kind ≡ 1 → ⊥ = λ z. omega arith in
-      when_no _ _ _ (ne_eqb _ _ n) ∙ when_no _ _ _ (ne_eqb _ _ m) ∙ when_yes _ _ _ (eq-eqb _ _ e)
-
-  pub lent_cycle : h.kind ≡ 3 → lent_of h ids pieces out ≡ updating h.a (close (cycle h.b))
-  unfolding lent_of
-  lent_cycle e =
-      let n : h.kind ≡ 0 → ⊥ = λ z. omega arith in
-      let m : h.kind ≡ 1 → ⊥ = λ z. omega arith in
-      let l : h.kind ≡ 2 → ⊥ = λ z. omega arith in
-      when_no _ _ _ (ne_eqb _ _ n) ∙ when_no _ _ _ (ne_eqb _ _ m) ∙ when_no _ _ _ (ne_eqb _ _ l) ∙ when_yes _ _ _ (eq-eqb _ _ e)
-
-  pub lent_show : 4 ≤ h.kind → lent_of h ids pieces out ≡ showing h.a h.b out
-  unfolding lent_of
-  lent_show e =
-      let n : h.kind ≡ 0 → ⊥ = λ z. omega arith in
-      let m : h.kind ≡ 1 → ⊥ = λ z. omega arith in
-      let l : h.kind ≡ 2 → ⊥ = λ z. omega arith in
-      let k : h.kind ≡ 3 → ⊥ = λ z. omega arith in
-      when_no _ _ _ (ne_eqb _ _ n) ∙ when_no _ _ _ (ne_eqb _ _ m) ∙ when_no _ _ _ (ne_eqb _ _ l) ∙ when_no _ _ _ (ne_eqb _ _ k)
-
--- it is lent as many places as its room
 lent_one : (i : ℕ) (d : Update) → lent_to (updating i d ∷ []) ≡ 0
 unfolding lent_to
 lent_one i d = refl
@@ -152,38 +142,16 @@ lent_showing : (u v : ℕ) (out : List ℕ) → lent_to (showing u v out ∷ [])
 unfolding lent_to
 lent_showing u v out = add-zero (length out)
 
-data Kind (h : Head) : Type 0 where
-  is_add_lem : h.kind ≡ 0 → Kind h
-  is_join : h.kind ≡ 1 → Kind h
-  is_line : h.kind ≡ 2 → Kind h
-  is_cycle : h.kind ≡ 3 → Kind h
-  is_show : 4 ≤ h.kind → Kind h
-
-kind_at : (k : ℕ) (h : Head) → h.kind ≡ k → Kind h
-kind_at zero h e = is_add_lem e
-kind_at (suc zero) h e = is_join e
-kind_at (suc (suc zero)) h e = is_line e
-kind_at (suc (suc (suc zero))) h e = is_cycle e
-kind_at (suc (suc (suc (suc k)))) h e = is_show (omega arith)
-
-room_lent : (h : Head) (ids pieces shown : List ℕ) (at : ℕ) → at ≤ length shown → lent_to (lent_of h ids pieces (take (room_of h (length shown - at)) (drop at shown)) ∷ []) ≡ room_of h (length shown - at)
-room_lent h ids pieces shown at l = go (kind_at h.kind h refl)
-  where
-    out : List ℕ
-    out = take (room_of h (length shown - at)) (drop at shown)
-
-    update_room : (i : ℕ) (d : Update) → h.kind < 4 → lent_of h ids pieces (take (room_of h (length shown - at)) (drop at shown)) ≡ updating i d → lent_to (lent_of h ids pieces (take (room_of h (length shown - at)) (drop at shown)) ∷ []) ≡ room_of h (length shown - at)
-    update_room i d k e = ap (λ (c : LentCall). lent_to (c ∷ [])) e ∙ lent_one i d ∙ sym (room_update h (length shown - at) k)
-
-    go : Kind h → lent_to (lent_of h ids pieces (take (room_of h (length shown - at)) (drop at shown)) ∷ []) ≡ room_of h (length shown - at)
-    go (is_add_lem e) = update_room _ _ (omega arith) (lent_add h ids pieces _ e)
-    go (is_join e) = update_room _ _ (omega arith) (lent_join h ids pieces _ e)
-    go (is_line e) = update_room _ _ (omega arith) (lent_line h ids pieces _ e)
-    go (is_cycle e) = update_room _ _ (omega arith) (lent_cycle h ids pieces _ e)
-    go (is_show e) =
-        let r : room_of h (length shown - at) ≤ length shown - at = omega (arith, room_show h (length shown - at) e) in
-        let d : room_of h (length shown - at) ≤ length (drop at shown) = omega (arith, length-drop at shown) in
-        ap (λ (c : LentCall). lent_to (c ∷ [])) (lent_show h ids pieces _ e) ∙ lent_showing _ _ _ ∙ length-take-le (room_of h (length shown - at)) (drop at shown) d
+-- it is lent as many places as its room
+room_lent : (c : Call) (ids pieces shown : List ℕ) (at : ℕ) → at ≤ length shown → lent_to (lent_by c ids pieces (take (room_by c (length shown - at)) (drop at shown)) ∷ []) ≡ room_by c (length shown - at)
+unfolding lent_by room_by
+room_lent (call.Add i from count) ids pieces shown at l = lent_one _ _
+room_lent (call.Join i n reversed from count) ids pieces shown at l = lent_one _ _
+room_lent (call.Close i Line) ids pieces shown at l = lent_one _ _
+room_lent (call.Close i (Cycle pivot)) ids pieces shown at l = lent_one _ _
+room_lent (call.Show unitig vertex count) ids pieces shown at l =
+    let d : min count (length shown - at) ≤ length (drop at shown) = omega (arith, length-drop at shown) in
+    lent_showing _ _ _ ∙ length-take-le (min count (length shown - at)) (drop at shown) d
 
 -- ---- what is told of one call more
 
@@ -221,32 +189,35 @@ module _ (words ids pieces z₀ : List ℕ) where
   unfolding calls_to
   calls_more i = ap to (add-one i)
 
-  module _ (i at room : ℕ) (head : Head) (inside : at ≤ length z₀) (ea : at ≡ lent_to (to i)) (eh : head ≡ head_at words i) (er : room ≡ room_of head (length z₀ - at)) where
-    here_is : call_at words ids pieces z₀ i (lent_to (to i)) ≡ lent_of head ids pieces (take room (drop at z₀))
-    here_is = rw (← ea, ← eh, ← er)
+  module _ (i at room : ℕ) (head : Head) (meant : Call) (inside : at ≤ length z₀) (ea : at ≡ lent_to (to i)) (eh : head ≡ head_at words i) (ec : meant ≡ call_of head) (er : room ≡ room_by meant (length z₀ - at)) where
+    room_here : room ≡ room_of head (length z₀ - at)
+    room_here = er ∙ ap (λ (c : Call). room_by c (length z₀ - at)) ec ∙ room_is head (length z₀ - at)
 
-    room_is : lent_to (lent_of head ids pieces (take room (drop at z₀)) ∷ []) ≡ room
-    room_is = ap (λ (k : ℕ). lent_to (lent_of head ids pieces (take k (drop at z₀)) ∷ [])) er ∙ room_lent head ids pieces z₀ at inside ∙ sym er
+    here_is : call_at words ids pieces z₀ i (lent_to (to i)) ≡ lent_by meant ids pieces (take room (drop at z₀))
+    here_is = rw (← ea, ← eh, ← room_here) (sym (ap (λ (c : Call). lent_by c ids pieces (take room (drop at z₀))) ec ∙ lent_is head ids pieces (take room (drop at z₀))))
+
+    room_kept : lent_to (lent_by meant ids pieces (take room (drop at z₀)) ∷ []) ≡ room
+    room_kept = ap (λ (k : ℕ). lent_to (lent_by meant ids pieces (take k (drop at z₀)) ∷ [])) er ∙ room_lent meant ids pieces z₀ at inside ∙ sym er
 
     pub lent_next : at + room ≡ lent_to (to (i + 1))
     lent_next =
-        sym (ap lent_to (calls_more i) ∙ lent_more (to i) _ ∙ ap₂ (λ (m : ℕ) (c : LentCall). m + lent_to (c ∷ [])) (sym ea) here_is ∙ ap (λ (k : ℕ). at + k) room_is)
+        sym (ap lent_to (calls_more i) ∙ lent_more (to i) _ ∙ ap₂ (λ (m : ℕ) (c : LentCall). m + lent_to (c ∷ [])) (sym ea) here_is ∙ ap (λ (k : ℕ). at + k) room_kept)
 
 pub keep_none : (s₀ : Store) (b₀ : Bufs) (words ids pieces x₀ y₀ z₀ : List ℕ) → tape s₀ b₀ x₀ y₀ z₀ ≡ keep (store_run s₀ b₀ (calls_to words ids pieces z₀ 0)) x₀ y₀ z₀
 unfolding keep over store_run calls_to flat
 keep_none s₀ b₀ words ids pieces x₀ y₀ z₀ = refl
 
 module _ (s₀ : Store) (b₀ : Bufs) (words ids pieces x₀ y₀ z₀ : List ℕ) where
-  module _ (i at room : ℕ) (head : Head) (hx : i < length x₀) (hy : i < length y₀) (inside : at ≤ length z₀) (ea : at ≡ lent_to (calls_to words ids pieces z₀ i)) (eh : head ≡ head_at words i) (er : room ≡ room_of head (length z₀ - at)) where
+  module _ (i at room : ℕ) (head : Head) (meant : Call) (hx : i < length x₀) (hy : i < length y₀) (inside : at ≤ length z₀) (ea : at ≡ lent_to (calls_to words ids pieces z₀ i)) (eh : head ≡ head_at words i) (ec : meant ≡ call_of head) (er : room ≡ room_by meant (length z₀ - at)) where
     abbrev calls : ℕ → List LentCall
     calls j = calls_to words ids pieces z₀ j
 
-    pub keep_more : (s : Store) (b b' : Bufs) (x y z z' : List ℕ) (t : Noted)
+    pub keep_more : (s s' : Store) (b b' : Bufs) (x y z out : List ℕ) (a : Answer)
         → tape s b x y z ≡ keep (store_run s₀ b₀ (calls i)) x₀ y₀ z₀
-        → ◌≡◌ {A = ℕ × ℕ × Store × Bufs × List ℕ} (t.refusal, t.answer, t.store, b', z') (one_of (store_step s b (lent_of head ids pieces (take room (drop at z)))) at room z)
-        → tape t.store b' (set x i t.refusal) (set y i t.answer) z' ≡ keep (store_run s₀ b₀ (calls (i + 1))) x₀ y₀ z₀
+        → ◌≡◌ {A = Seen × Store × Bufs} (seen a out, s', b') (store_step s b (lent_by meant ids pieces (take room (drop at z))))
+        → tape s' b' (set x i (refusal_of a)) (set y i (value_of a)) (placed at room out z) ≡ keep (store_run s₀ b₀ (calls (i + 1))) x₀ y₀ z₀
     unfolding keep
-    keep_more s b b' x y z z' t e f =
+    keep_more s s' b b' x y z out a e f =
         let r = store_run s₀ b₀ (calls i) in
         let front : List ℕ = flat out_in r.0 in
         let long : length r.0 ≡ i = run_long s₀ b₀ (calls i) ∙ calls_long words ids pieces z₀ i in
@@ -257,38 +228,50 @@ module _ (s₀ : Store) (b₀ : Bufs) (words ids pieces x₀ y₀ z₀ : List �
         let ey : y ≡ over (map value_in r.0) y₀ = ap (λ (q : Tape). q.answers) e in
         let ez : z ≡ over (flat out_in r.0) z₀ = ap (λ (q : Tape). q.shown) e in
         let p : take room (drop at z) ≡ take room (drop at z₀) = ap (λ (l : List ℕ). take room (drop at l)) ez ∙ next_part front z₀ at room wide in
-        let c : LentCall = lent_of head ids pieces (take room (drop at z₀)) in
+        let c : LentCall = lent_by meant ids pieces (take room (drop at z₀)) in
         let k = store_step r.1 r.2 c in
-        let g : ◌≡◌ {A = ℕ × ℕ × Store × Bufs × List ℕ} (t.refusal, t.answer, t.store, b', z') (one_of (store_step r.1 r.2 (lent_of head ids pieces (take room (drop at z₀)))) at room (over (flat out_in r.0) z₀)) =
-        f ∙ ap (λ (l : List ℕ). one_of (store_step s b (lent_of head ids pieces l)) at room z) p ∙ ap₂ (λ (q : Store) (w : Bufs). one_of (store_step q w (lent_of head ids pieces (take room (drop at z₀)))) at room z) es eb ∙ ap (λ (l : List ℕ). one_of (store_step r.1 r.2 (lent_of head ids pieces (take room (drop at z₀)))) at room l) ez
+        let g : ◌≡◌ {A = Seen × Store × Bufs} (seen a out, s', b') (store_step r.1 r.2 (lent_by meant ids pieces (take room (drop at z₀)))) =
+        f ∙ ap (λ (l : List ℕ). store_step s b (lent_by meant ids pieces l)) p ∙ ap₂ (λ (q : Store) (w : Bufs). store_step q w (lent_by meant ids pieces (take room (drop at z₀)))) es eb
         in
-        let t0 : t.refusal ≡ refusal_in k.0 = ap (λ (q : ℕ × ℕ × Store × Bufs × List ℕ). q.0) g in
-        let t1 : t.answer ≡ value_in k.0 = ap (λ (q : ℕ × ℕ × Store × Bufs × List ℕ). q.1) g in
-        let t2 : t.store ≡ k.1 = ap (λ (q : ℕ × ℕ × Store × Bufs × List ℕ). q.2) g in
-        let t3 : b' ≡ k.2 = ap (λ (q : ℕ × ℕ × Store × Bufs × List ℕ). q.3) g in
-        let t4 : z' ≡ placed at room (out_in k.0) (over (flat out_in r.0) z₀) = ap (λ (q : ℕ × ℕ × Store × Bufs × List ℕ). q.4) g in
-        let lo : length (out_in k.0) ≡ room = out_long r.1 r.2 c ∙ room_is words ids pieces z₀ i at room head inside ea eh er in
-        let u0 : set x i t.refusal ≡ over (map refusal_in (r.0 ++ (k.0 ∷ []))) x₀ = ap₂ (λ (l : List ℕ) (v : ℕ). set l i v) ex t0 ∙ told_more refusal_in r.0 k.0 x₀ i long hx in
-        let u1 : set y i t.answer ≡ over (map value_in (r.0 ++ (k.0 ∷ []))) y₀ = ap₂ (λ (l : List ℕ) (v : ℕ). set l i v) ey t1 ∙ told_more value_in r.0 k.0 y₀ i long hy in
-        let u2 : z' ≡ over (flat out_in (r.0 ++ (k.0 ∷ []))) z₀ = t4 ∙ placed_more front z₀ (out_in k.0) at room wide lo ∙ ap (λ (l : List ℕ). over l z₀) (sym (flat_more out_in r.0 k.0)) in
-        let run : store_run s₀ b₀ (calls (i + 1)) ≡ add_end r c = ap (store_run s₀ b₀) (calls_more words ids pieces z₀ i ∙ ap (λ (d : LentCall). calls i ++ (d ∷ [])) (here_is words ids pieces z₀ i at room head inside ea eh er)) ∙ run_more s₀ b₀ (calls i) c in
+        let t0 : refusal_of a ≡ refusal_in k.0 = ap (λ (q : Seen × Store × Bufs). refusal_in q.0) g in
+        let t1 : value_of a ≡ value_in k.0 = ap (λ (q : Seen × Store × Bufs). value_in q.0) g in
+        let t2 : s' ≡ k.1 = ap (λ (q : Seen × Store × Bufs). q.1) g in
+        let t3 : b' ≡ k.2 = ap (λ (q : Seen × Store × Bufs). q.2) g in
+        let t4 : out ≡ out_in k.0 = ap (λ (q : Seen × Store × Bufs). out_in q.0) g in
+        let lo : length (out_in k.0) ≡ room = out_long r.1 r.2 c ∙ room_kept words ids pieces z₀ i at room head meant inside ea eh ec er in
+        let u0 : set x i (refusal_of a) ≡ over (map refusal_in (r.0 ++ (k.0 ∷ []))) x₀ = ap₂ (λ (l : List ℕ) (v : ℕ). set l i v) ex t0 ∙ told_more refusal_in r.0 k.0 x₀ i long hx in
+        let u1 : set y i (value_of a) ≡ over (map value_in (r.0 ++ (k.0 ∷ []))) y₀ = ap₂ (λ (l : List ℕ) (v : ℕ). set l i v) ey t1 ∙ told_more value_in r.0 k.0 y₀ i long hy in
+        let u2 : placed at room out z ≡ over (flat out_in (r.0 ++ (k.0 ∷ []))) z₀ = ap₂ (placed at room) t4 ez ∙ placed_more front z₀ (out_in k.0) at room wide lo ∙ ap (λ (l : List ℕ). over l z₀) (sym (flat_more out_in r.0 k.0)) in
+        let run : store_run s₀ b₀ (calls (i + 1)) ≡ add_end r c = ap (store_run s₀ b₀) (calls_more words ids pieces z₀ i ∙ ap (λ (d : LentCall). calls i ++ (d ∷ [])) (here_is words ids pieces z₀ i at room head meant inside ea eh ec er)) ∙ run_more s₀ b₀ (calls i) c in
         rw (t2, t3, u0, u1, u2, run)
 
--- the loop of `replay`: i calls are done, `at` places of the output are lent, and no slice changes its length
-pub record Turned (words ids pieces : List ℕ) (t₀ t : Tape) (n at i : ℕ) : Type 0 where
-  pub below : i ≤ n
-  pub n_calls : 6 * n ≤ length words
-  pub n_refusals : n ≤ length t₀.refusals
-  pub n_answers : n ≤ length t₀.answers
-  pub records : length t.lent.cell.records ≡ length t₀.lent.cell.records
-  pub index : length t.lent.cell.index ≡ length t₀.lent.cell.index
-  pub opened : length t.lent.cell.opened ≡ length t₀.lent.cell.opened
-  pub held : length t.lent.cell.held ≡ length t₀.lent.cell.held
-  pub runs : length t.lent.shared.runs ≡ length t₀.lent.shared.runs
-  pub table : length t.lent.shared.table ≡ length t₀.lent.shared.table
-  pub refusals : length t.refusals ≡ length t₀.refusals
-  pub answers : length t.answers ≡ length t₀.answers
-  pub shown : length t.shown ≡ length t₀.shown
+    -- the same where the part that is lent ends at `at + room`
+    pub keep_turn : (s s' : Store) (b b' : Bufs) (x y z out : List ℕ) (a : Answer)
+        → tape s b x y z ≡ keep (store_run s₀ b₀ (calls i)) x₀ y₀ z₀
+        → ◌≡◌ {A = Seen × Store × Bufs} (seen a out, s', b') (store_step s b (lent_by meant ids pieces (mid_of at (at + room - at) z)))
+        → tape s' b' (set x i (refusal_of a)) (set y i (value_of a)) (put_mid at (at + room - at) z out) ≡ keep (store_run s₀ b₀ (calls (i + 1))) x₀ y₀ z₀
+    keep_turn s s' b b' x y z out a e f =
+        let d : at + room - at ≡ room = omega arith in
+        ap (λ (k : ℕ). tape s' b' (set x i (refusal_of a)) (set y i (value_of a)) (placed at k out z)) d
+        ∙ keep_more s s' b b' x y z out a e (f ∙ ap (λ (k : ℕ). store_step s b (lent_by meant ids pieces (take k (drop at z)))) d)
+
+room_again : (c : Call) (left : ℕ) → room_by c (room_by c left) ≡ room_by c left
+unfolding room_by
+room_again (call.Add i from count) left = refl
+room_again (call.Join i n reversed from count) left = refl
+room_again (call.Close i way) left = refl
+room_again (call.Show unitig vertex count) left = omega arith
+
+-- the part of the output that a call is lent is as long as its room
+pub part_roomy : (c : Call) (at room : ℕ) (shown : List ℕ) → room ≡ room_by c (length shown - at) → room ≤ length shown - at → room_by c (length (mid_of at (at + room - at) shown)) ≡ length (mid_of at (at + room - at) shown)
+part_roomy c at room shown e h =
+    let d : at + room - at ≡ room = omega arith in
+    let f : room ≤ length (drop at shown) = omega (arith, length-drop at shown) in
+    let l : length (take (at + room - at) (drop at shown)) ≡ room = ap (λ (k : ℕ). length (take k (drop at shown))) d ∙ length-take-le room (drop at shown) f in
+    ap (room_by c) (l ∙ e) ∙ room_again c (length shown - at) ∙ sym (l ∙ e)
+
+-- the loop of `replay`: i calls are done, and `at` places of the output are lent
+pub record Turned (words ids pieces : List ℕ) (t₀ t : Tape) (at i : ℕ) : Type 0 where
   pub inside : at ≤ length t₀.shown
   pub places : at ≡ lent_to (calls_to words ids pieces t₀.shown i)
   pub done : t ≡ keep (store_run t₀.store t₀.lent (calls_to words ids pieces t₀.shown i)) t₀.refusals t₀.answers t₀.shown
