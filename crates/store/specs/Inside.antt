@@ -1,5 +1,4 @@
 -- What serves the functions inside the crate and their proofs.
-pub mod Counts
 pub mod Places
 pub mod Lent
 pub mod Fits

@@ -75,11 +75,6 @@ abbrev pub of_answer : Result ℕ Refusal → Answer
 of_answer (Ok a) = done (a ∷ [])
 of_answer (Err r) = refused (number_of r)
 
--- of a start: nothing more than that it was done
-abbrev pub of_started : Result (Unit {0}) Refusal → Answer
-of_started (Ok _) = done []
-of_started (Err r) = refused (number_of r)
-
 -- the answer of a call, and the state and the buffers that it leaves
 abbrev pub Outcome : Type 0
 Outcome = Answer × Store × Bufs

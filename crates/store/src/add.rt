@@ -7,10 +7,10 @@ ghost use Rattle.store.specs.Add.{unitig_open, no_space, same_add, add_test, add
 ghost use Rattle.store.specs.Inside.Fits.{AddFits, AddReady};
 
 use crate::lengths::Lengths;
+use crate::numbered;
 use crate::numbered::Sequence;
 use crate::state::{Cell, Current, Extent, Last, Store, Told};
-use crate::{counts, numbered};
-use base::{Refusal, Written};
+use base::Refusal;
 
 impl Cell {
     // Whether the last call was an add of these ids.
@@ -48,9 +48,8 @@ impl Cell {
         if self.is_open() {
             return Err(Refusal::Opened);
         }
-        let Written::Done(len) = codec::records::color_record_len(colors, ids) else {
-            return Err(Refusal::Ids);
-        };
+        // the colours are within their limits, so that it can only refuse the ids
+        let len = codec::records::color_record_len(colors, ids)?;
         if self.no_space(len) {
             return Err(Refusal::Space);
         }
@@ -96,11 +95,7 @@ impl Cell {
     {
         let at = self.records.used;
         let sets = self.sets as usize;
-        let len = counts::written(codec::records::write_color_record(
-            colors,
-            ids,
-            &mut records[at..],
-        ));
+        let len = codec::records::write_color_record(colors, ids, &mut records[at..]).unwrap();
         let end = at + len;
         index[sets + 1] = end as u64;
         let coord = runs::words::coordinate_of(self.worker, self.sets);

@@ -1,20 +1,11 @@
 // What every call after start tests first (15), and the limits of start.
 ghost use Rattle.std.specs.Prelude.{◌≡◌};
-ghost use Rattle.codec.specs.Records.{bad_colors};
 ghost use Rattle.store.specs.Start.{too_long};
 ghost use Rattle.store.specs.Altered.{altered_buffer, bad_vertices, bad_current, altered_cell, altered_shared, altered};
 ghost use Rattle.store.specs.Inside.Lent.{cell_lent, shared_lent, all_lent};
 
 use crate::lengths::{CellLengths, Lengths, SharedLengths};
 use crate::state::{Cell, Current, Extent, Shared, Store};
-
-// Whether N is outside 1 to 1,048,576.
-#[tactic(auto, unfolding(codec::specs::Records::bad_colors))]
-pub(crate) fn bad_colors(colors: u32) -> bool
-    ensures { result ≡ bad_colors colors }
-{
-    colors == 0 || 1048576 < colors
-}
 
 // Whether a buffer is longer than 4,294,967,295.
 #[tactic(auto, unfolding(crate::specs::Start::too_long))]
@@ -92,6 +83,8 @@ impl Store {
     pub(crate) fn altered(self, now: Lengths) -> bool
         ensures { result ≡ altered self (all_lent now) }
     {
-        bad_colors(self.colors) || self.cell.altered(now.cell) || self.shared.altered(now.shared)
+        codec::records::bad_colors(self.colors)
+            || self.cell.altered(now.cell)
+            || self.shared.altered(now.shared)
     }
 }

@@ -13,7 +13,7 @@ use crate::lengths::Lengths;
 use crate::numbered;
 use crate::numbered::Sequence;
 use crate::state::{Cell, Current, Extent, Last, Shared, Store, Told, Way};
-use base::{Refusal, Written};
+use base::Refusal;
 
 impl Cell {
     // Whether the last call was a close in this way.
@@ -78,7 +78,14 @@ impl Cell {
     }
 
     // The run bytes of the open unitig behind the `at` used ones: 3 where they don't fit.
-    fn file_runs(self, way: Way, n: u32, at: usize, opened: &[u64], runs: &mut [u8]) -> Written
+    fn file_runs(
+        self,
+        way: Way,
+        n: u32,
+        at: usize,
+        opened: &[u64],
+        runs: &mut [u8],
+    ) -> Result<usize, Refusal>
         requires { (sharp n (take self.opened.used opened.now) ≡ true) × (n ≤ 16777215) × (self.opened.used ≤ length opened.now) × (self.opened.used ≤ 4294967295) × (at ≤ length runs.old) }
         ensures { (of_written result, runs.new) ≡ bytes_into (run_bytes (filed_runs way n (take self.opened.used opened.now))) at runs.old }
     {
@@ -110,7 +117,7 @@ impl Cell {
     {
         let n = self.vertices();
         let at = shared.runs.used;
-        let Written::Done(len) = self.file_runs(way, n, at, opened, runs) else {
+        let Ok(len) = self.file_runs(way, n, at, opened, runs) else {
             return Told {
                 state: (self, shared),
                 answer: Err(Refusal::Space),

@@ -7,9 +7,9 @@ ghost use Rattle.store.specs.Join.{all_named, same_join, open_count, open_at, op
 ghost use Rattle.store.specs.Inside.Fits.{JoinFits, JoinReady, OpenReady, open_after};
 
 use crate::lengths::Lengths;
+use crate::numbered;
 use crate::numbered::Sequence;
 use crate::state::{Cell, Current, Extent, Last, Store, Told};
-use crate::{counts, numbered};
 use base::Refusal;
 
 impl Cell {
@@ -154,17 +154,14 @@ impl Cell {
         ensures { (result, opened.new) ≡ open_after self n reversed piece.now opened.old }
     {
         match self.current {
-            Current::Nothing => counts::written(runs::reverse::orient_color_runs(
-                piece, n, reversed, opened,
-            )),
-            Current::Open(m) => counts::appended(runs::append::append_color_runs(
-                opened,
-                self.opened.used,
-                m,
-                piece,
-                n,
-                reversed,
-            )),
+            Current::Nothing => {
+                runs::reverse::orient_color_runs(piece, n, reversed, opened).unwrap()
+            }
+            Current::Open(m) => {
+                let used = self.opened.used;
+                let appended = runs::append::append_color_runs(opened, used, m, piece, n, reversed);
+                appended.unwrap().runs
+            }
         }
     }
 
@@ -182,7 +179,7 @@ impl Cell {
         ensures { (of_answer result.answer, result.state, opened.new, held.new) ≡ join_filed self number n reversed piece.now opened.old held.old }
     {
         let total = self.put_open(n, reversed, piece, opened);
-        runs::reverse::orient_color_runs(piece, n, false, held);
+        let kept = runs::reverse::orient_color_runs(piece, n, false, held).unwrap();
         let count = self.new_count(n);
         let state = Cell {
             opened: Extent {
@@ -190,7 +187,7 @@ impl Cell {
                 ..self.opened
             },
             held: Extent {
-                used: piece.len(),
+                used: kept,
                 ..self.held
             },
             current: Current::Open(count as u32),

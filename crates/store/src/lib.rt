@@ -6,7 +6,6 @@ mod lengths; // how long the buffers are that are lent
 mod start; // a fresh store
 mod altered; // 15, which every later call tests first
 mod numbered; // 10, 11 and repeats, which every numbered call tests next
-mod counts; // how many bytes or items an answer tells
 mod filed; // the record that a coordinate names
 mod add;
 mod close;

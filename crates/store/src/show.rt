@@ -11,7 +11,6 @@ ghost use Rattle.store.specs.Inside.Showing.{damage_or, of_read, seek_of};
 use crate::lengths::Lengths;
 use crate::state::{Cell, Shared, Store, Told};
 use base::{Given, Refusal};
-use runs::bytes::Colored;
 
 // A record that can't be read is damaged, whatever is wrong with it; want of space stays what it is.
 #[tactic(auto, using(base::proofs::Tests::tests), unfolding(crate::specs::Inside::Showing::damage_or))]
@@ -24,13 +23,11 @@ fn damage_or(r: Refusal) -> Refusal
     }
 }
 
-fn read_answer(got: Given) -> Result<u64, Refusal>
+// What show answers of a read: how many ids.
+fn read_answer(got: Result<Given, Refusal>) -> Result<u64, Refusal>
     ensures { result ≡ of_read got }
 {
-    match got {
-        Given::Done { items, bytes: _ } => Ok(items as u64),
-        Given::Refused(r) => Err(damage_or(r)),
-    }
+    got.map(|given| given.items as u64).map_err(damage_or)
 }
 
 impl Shared {
@@ -44,10 +41,7 @@ impl Shared {
         if 16777215 < n || end < at {
             return None;
         }
-        match runs::bytes::sharp_color_at(&runs[at..end], n as u32, vertex) {
-            Colored::At(coord) => Some(coord),
-            Colored::Refused(_) => None,
-        }
+        runs::bytes::sharp_color_at(&runs[at..end], n as u32, vertex).ok()
     }
 
     // Whether there is no such closed unitig, or no such vertex of it.

@@ -1,10 +1,11 @@
 // A fresh store.
 ghost use Rattle.std.specs.Prelude.{◌≡◌};
-ghost use Rattle.store.specs.State.{bufs, of_started};
+ghost use Rattle.base.specs.Answers.{of_made};
+ghost use Rattle.store.specs.State.{bufs};
 ghost use Rattle.store.specs.Start.{bad_limits, bad_cell_lengths, bad_shared_lengths, bad_lengths, fresh, start_step, unstarted};
 ghost use Rattle.store.specs.Inside.Lent.{cell_lent, shared_lent, all_lent};
 
-use crate::altered::{bad_colors, too_long};
+use crate::altered::too_long;
 use crate::lengths::{CellLengths, Lengths, SharedLengths};
 use crate::state::{Cell, Extent, Shared, Store, Told};
 use base::Refusal;
@@ -14,7 +15,7 @@ use base::Refusal;
 fn bad_limits(colors: u32, worker: u32) -> bool
     ensures { result ≡ bad_limits colors worker }
 {
-    bad_colors(colors) || 255 < worker
+    codec::records::bad_colors(colors) || 255 < worker
 }
 
 impl CellLengths {
@@ -95,7 +96,7 @@ impl Store {
         runs: &[u8],
         table: &[u64],
     ) -> Told<Store, ()>
-        ensures { (of_started result.answer, result.state, bufs records.now index.new opened.now held.now runs.now table.now)
+        ensures { (of_made result.answer, result.state, bufs records.now index.new opened.now held.now runs.now table.now)
             ≡ start_step colors worker (bufs records.now index.old opened.now held.now runs.now table.now) }
     {
         let lengths = Lengths::of(records, index, opened, held, runs, table);

@@ -72,7 +72,7 @@ pub struct Store {
 }
 
 // What a call tells: the state handed back beside the answer.
-#[derive(Clone, Copy)]
+#[derive(Clone, Copy, Debug, PartialEq, Eq)]
 pub struct Told<S, T> {
     pub state: S,
     pub answer: Result<T, Refusal>,

@@ -1,6 +1,6 @@
 -- The cases of an add, as `search` looks for them.
 use Prim.Native.Nat.{ℕ, ◌+◌, ◌-◌, ◌≤◌, ◌<◌}
-use mathlib.Core.Path.{◌≡◌, refl, ap, ◌∙◌}
+use mathlib.Core.Path.{◌≡◌, refl, ap, ◌∙◌, sym}
 use mathlib.Core.Bool.{Bool, true, false}
 use mathlib.Core.List.{List, [], ◌∷◌}
 use mathlib.Core.Option.{Option, none, some}
@@ -9,11 +9,11 @@ use lib.ListN.{length, set, take, drop, length-drop}
 use lib.Dec.{ltb}
 use borrow.Author.Tests.{le-ltb, ltb-false, not-false}
 use borrow.Rule.Slice.PartMut.{mid_of, put_mid}
-use Rattle.std.proofs.Common.{Ok, None}
+use Rattle.std.proofs.Common.{Result, Ok, None, IsOk}
 use Rattle.base.specs.Answers.{Answer, done, of_written}
 use Rattle.base.specs.Parts.{over}
+use Rattle.base.specs.declared.Refusal.{Refusal}
 use Rattle.base.specs.Tests.{◌when◌else◌}
-use Rattle.base.specs.declared.Written.{Written}
 use Rattle.base.proofs.Bools.{or_none}
 use Rattle.base.proofs.Parts.{put_tail, tail_is}
 use Rattle.codec.specs.Records.{ReadRecord, bad_colors, gives_ids, is_record, record_length, record_of, write_record}
@@ -21,14 +21,13 @@ use Rattle.codec.specs.Records as records
 use Rattle.runs.specs.Words.{coordinate_of}
 use Rattle.store.specs.Add.{add_filed, add_test, no_space}
 use Rattle.store.specs.Filed.{reads_as, record_start, set_from, set_in, unnamed}
-use Rattle.store.specs.Inside.Counts.{written_of}
 use Rattle.store.specs.Inside.Fits.{AddFits, AddReady}
 use Rattle.store.specs.Numbered.{numbered}
 use Rattle.store.specs.State.{after, put}
 use Rattle.store.specs.declared.state.Cell.{Cell}
 use Rattle.store.specs.declared.state.Last.TheVariants as last
 use Rattle.store.proofs.Laws.Parts.{part_is}
-use Rattle.store.proofs.Laws.Tested.{count_told, refuse_go, said_go}
+use Rattle.store.proofs.Laws.Tested.{told_written, is_ok_at, refuse_go, said_go}
 
 -- ---- the record that a coordinate names
 
@@ -84,7 +83,7 @@ add_ready N c i same ids f n a e = ready N c ids f n a (said_go c i same _ e)
 
 -- ---- the record is written
 
-module _ (w : Written) (part : List ℕ) (N : ℕ) (c : Cell) (ids file index : List ℕ) (a : AddReady N c ids (length file) (length index)) (e : ◌≡◌ {A = Answer × List ℕ} (of_written w, part) (write_record N ids (mid_of c.records.used (length file - c.records.used) file))) (len : ℕ) (k : len ≡ written_of w) where
+module _ (w : Result ℕ Refusal) (part : List ℕ) (N : ℕ) (c : Cell) (ids file index : List ℕ) (a : AddReady N c ids (length file) (length index)) (e : ◌≡◌ {A = Answer × List ℕ} (of_written w, part) (write_record N ids (mid_of c.records.used (length file - c.records.used) file))) where
   said : ◌≡◌ {A = Answer × List ℕ} (of_written w, part) (done (length (record_of N ids) ∷ []), over (record_of N ids) (drop c.records.used file))
   unfolding write_record ◌when◌else◌
   said =
@@ -92,18 +91,21 @@ module _ (w : Written) (part : List ℕ) (N : ℕ) (c : Cell) (ids file index : 
       let l : length (record_of N ids) ≤ length (drop c.records.used file) = omega (arith, length-drop c.records.used file) in
       e ∙ rw (tail_is c.records.used file, a.fits.colors, a.is_set, le-ltb _ _ l)
 
-  wrote : len ≡ length (record_of N ids)
-  wrote = k ∙ count_told w _ (ap (λ (x : Answer × List ℕ). x.0) said)
+  told : w ≡ Ok (length (record_of N ids))
+  told = told_written w _ (ap (λ (x : Answer × List ℕ). x.0) said)
 
-  pub wrote_fits : c.records.used + len ≤ length file
-  wrote_fits = omega (arith, wrote, a.room)
+  pub wrote_ok : IsOk w
+  wrote_ok = is_ok_at w _ told
 
-  pub wrote_small : c.records.used + len < 18446744073709551616
-  wrote_small = omega (arith, wrote_fits, a.fits.records.small)
+  wrote : (len : ℕ) → w ≡ Ok len → len ≡ length (record_of N ids)
+  wrote len k = let z : ◌≡◌ {A = Result ℕ Refusal} (Ok len) (Ok (length (record_of N ids))) = sym k ∙ told in cc
 
-  pub filed_set : (i coord : ℕ) → coord ≡ coordinate_of c.worker c.sets
+  pub wrote_small : (len : ℕ) → w ≡ Ok len → c.records.used + len < 18446744073709551616
+  wrote_small len k = omega (arith, wrote len k, a.room, a.fits.records.small)
+
+  pub filed_set : (len : ℕ) → w ≡ Ok len → (i coord : ℕ) → coord ≡ coordinate_of c.worker c.sets
       → ◌≡◌ {A = Answer × Cell × List ℕ × List ℕ} (done (coord ∷ []), after c (c.records.used + len) (c.sets + 1) c.opened.used c.held.used c.current i last.Add coord, put_mid c.records.used (length file - c.records.used) file part, set index (c.sets + 1) (c.records.used + len)) (add_filed N c i ids file index)
   unfolding add_filed put
-  filed_set i coord h =
+  filed_set len k i coord h =
       let p : part ≡ over (record_of N ids) (drop c.records.used file) = ap (λ (x : Answer × List ℕ). x.1) said in
-      rw (h, wrote, put_tail c.records.used file part, p)
+      rw (h, wrote len k, put_tail c.records.used file part, p)

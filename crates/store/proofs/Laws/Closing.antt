@@ -16,15 +16,13 @@ use Rattle.base.specs.Parts.{over}
 use Rattle.base.specs.Tests.{◌when◌else◌}
 use Rattle.base.specs.declared.Refusal.{Refusal}
 use Rattle.base.specs.declared.Refusal.TheVariants.{Damaged, Space}
-use Rattle.base.specs.declared.Written.{Written}
-use Rattle.base.specs.declared.Written.TheVariants as written
 use Rattle.base.proofs.Bools.{or_none}
 use Rattle.base.proofs.Parts.{put_tail, tail_is}
 use Rattle.base.proofs.Tests.{when_no, when_yes}
 use Rattle.runs.specs.Bytes.{run_bytes, write_rotated, write_runs}
 use Rattle.runs.specs.Orders.{sharp, steady}
 use Rattle.runs.specs.Rotate.{rotate_runs}
-use Rattle.runs.proofs.Laws.Bytes.{write_turned_lem}
+use Rattle.runs.proofs.Laws.Answers.{rotated_written}
 use Rattle.runs.proofs.Laws.Cursor.{rotate_few}
 use Rattle.runs.proofs.Laws.Orders.{steady_sharp, taken}
 use Rattle.store.specs.Altered.{bad_current, bad_vertices}
@@ -123,7 +121,7 @@ module _ (file : List ℕ) (at : ℕ) (inside : at ≤ length file) where
       let st : steady n (take used old) ≡ true = steady_sharp n (take used old) sh in
       let f : length (rotate_runs n pivot false (take used old)) ≤ n = rotate_few n pivot false (take used old) (taken n (take used old) small st) in
       let k : length (rotate_runs n pivot false (take used old)) ≤ 4294967295 = omega arith in
-      rw q (runs_into a part (rotate_runs n pivot false (take used old)) k (e ∙ sym (write_turned_lem (take used old) n pivot false (mid_of at (length file - at) file) small st)))
+      rw q (runs_into a part (rotate_runs n pivot false (take used old)) k (e ∙ sym (rotated_written (take used old) n pivot false (mid_of at (length file - at) file) (taken n (take used old) small st))))
 
 -- ---- with the table and the state
 
@@ -131,7 +129,7 @@ bytes_open : (way : Way) (k : Current) (n : ℕ) (old : List ℕ) → k ≡ Open
 unfolding filed_bytes
 bytes_open way k n old e = rw e
 
-module _ (c : Cell) (s : Shared) (way : Way) (opened file file' : List ℕ) (w : Written) (n end : ℕ) (a : CloseReady c s opened (length file) end) (m : n ≡ count_of c.current)
+module _ (c : Cell) (s : Shared) (way : Way) (opened file file' : List ℕ) (w : Result ℕ Refusal) (n end : ℕ) (a : CloseReady c s opened (length file) end) (m : n ≡ count_of c.current)
     (e : ◌≡◌ {A = Answer × List ℕ} (of_written w, file') (bytes_into (run_bytes (filed_runs way n (take c.opened.used opened))) s.runs.used file)) where
   abbrev bytes : List ℕ
   bytes = filed_bytes way c.current (take c.opened.used opened)
@@ -157,24 +155,24 @@ module _ (c : Cell) (s : Shared) (way : Way) (opened file file' : List ℕ) (w :
       let y : done (len ∷ []) ≡ done (length bytes ∷ []) = ap (λ (x : Answer × List ℕ). x.0) q in
       (refl, cc, ap (λ (x : Answer × List ℕ). x.1) q)
 
-  pub filed_full : (i : ℕ) (table : List ℕ) (r : Refusal) → w ≡ written.Refused r → ◌≡◌ {A = Answer × Cell × Shared × List ℕ × List ℕ} (answer.refused 3, c, s, file', table) (filed_or_full c s i way opened file table)
+  pub filed_full : (i : ℕ) (table : List ℕ) (r : Refusal) → w ≡ Err r → ◌≡◌ {A = Answer × Cell × Shared × List ℕ × List ℕ} (answer.refused 3, c, s, file', table) (filed_or_full c s i way opened file table)
   unfolding filed_or_full bytes_into
   filed_full i table r h =
-      let d = refused_by (ltb (length file) (s.runs.used + length bytes)) (number_of r) (ap (λ (x : Written). (of_written x, file')) (sym h) ∙ said) in
+      let d = refused_by (ltb (length file) (s.runs.used + length bytes)) (number_of r) (ap (λ (x : Result ℕ Refusal). (of_written x, file')) (sym h) ∙ said) in
       rw d.1 (sym (when_yes _ _ _ d.0))
 
-  filed_length : (len : ℕ) → w ≡ written.Done len → (s.runs.used + len ≤ length file) × (len ≡ length bytes) × (file' ≡ put s.runs.used bytes file)
+  filed_length : (len : ℕ) → w ≡ Ok len → (s.runs.used + len ≤ length file) × (len ≡ length bytes) × (file' ≡ put s.runs.used bytes file)
   unfolding bytes_into
   filed_length len h =
-      let d = done_by (ltb (length file) (s.runs.used + length bytes)) len (ap (λ (x : Written). (of_written x, file')) (sym h) ∙ said) in
+      let d = done_by (ltb (length file) (s.runs.used + length bytes)) len (ap (λ (x : Result ℕ Refusal). (of_written x, file')) (sym h) ∙ said) in
       let f : s.runs.used + length bytes ≤ length file = ltb-false _ _ d.0 in
       let l : len ≡ length bytes = d.1 in
       (omega arith, d.1, d.2)
 
-  pub filed_small : (len : ℕ) → w ≡ written.Done len → s.runs.used + len < 18446744073709551616
+  pub filed_small : (len : ℕ) → w ≡ Ok len → s.runs.used + len < 18446744073709551616
   filed_small len h = omega (arith, (filed_length len h).0, a.small_runs)
 
-  pub filed_done : (i : ℕ) (table : List ℕ) (len : ℕ) → w ≡ written.Done len
+  pub filed_done : (i : ℕ) (table : List ℕ) (len : ℕ) → w ≡ Ok len
       → ◌≡◌ {A = Answer × Cell × Shared × List ℕ × List ℕ} (done (s.unitigs ∷ []), after c c.records.used c.sets 0 c.held.used Nothing i (last.Close way) s.unitigs, with_unitig s (s.runs.used + len) (s.unitigs + 1), file', set (set table (2 * s.unitigs) s.runs.used) (2 * s.unitigs + 1) n) (filed_or_full c s i way opened file table)
   unfolding filed_or_full close_filed_of
   filed_done i table len h =

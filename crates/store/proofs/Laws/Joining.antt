@@ -9,15 +9,13 @@ use lib.ListN.{length, take, drop, length-append, length-drop}
 use lib.Seq.{length-take-le}
 use lib.Dec.{ltb, leb, eqb}
 use borrow.Author.Tests.{lt-ltb, le-ltb, ne_eqb, ltb-false, eqb-false, leb-false, leb-true, not-false}
-use Rattle.std.proofs.Common.{Ok, None}
+use Rattle.std.proofs.Common.{Result, Ok, Err, None, IsOk}
 use Rattle.std.specs.Cmp.Lexicographic.{pointwise}
 use Rattle.std.specs.List.{list_all}
-use Rattle.base.specs.Answers.{Answer, done, number_of, of_written}
-use Rattle.base.specs.Answers as answer
+use Rattle.base.specs.Answers.{Answer, done, of_written}
 use Rattle.base.specs.Parts.{over}
+use Rattle.base.specs.declared.Refusal.{Refusal}
 use Rattle.base.specs.Tests.{◌when◌else◌}
-use Rattle.base.specs.declared.Written.{Written}
-use Rattle.base.specs.declared.Written.TheVariants as written
 use Rattle.base.proofs.Bools.{or_none}
 use Rattle.base.proofs.Parts.{over_behind}
 use Rattle.base.proofs.Tests.{when_no}
@@ -28,13 +26,11 @@ use Rattle.runs.specs.Orders.{list_into, sharp}
 use Rattle.runs.specs.Reverse.{orient_into, oriented}
 use Rattle.runs.specs.Words.{coordinate, place_of, worker_of}
 use Rattle.runs.specs.declared.append.Appended.{Appended}
-use Rattle.runs.specs.declared.append.Appended.TheVariants as appended
 use Rattle.runs.proofs.Laws.Append.{length_shifted, skip_yes}
 use Rattle.runs.proofs.Laws.Joints.{sharp_joinable}
 use Rattle.runs.proofs.Laws.Orders.{sharp_yes, steady_sharp}
 use Rattle.runs.proofs.Laws.Reverse.{oriented_long}
 use Rattle.store.specs.Altered.{bad_current, bad_vertices}
-use Rattle.store.specs.Inside.Counts.{appended_of, written_of}
 use Rattle.store.specs.Filed.{unnamed}
 use Rattle.store.specs.Inside.Fits.{JoinFits, JoinReady, OpenReady, open_after}
 use Rattle.store.specs.Join.{all_named, join_filed, join_filed_at, join_test, open_at, open_count, open_new, open_space, open_test}
@@ -44,7 +40,7 @@ use Rattle.store.specs.declared.state.Cell.{Cell}
 use Rattle.store.specs.declared.state.Current.{Current}
 use Rattle.store.specs.declared.state.Current.TheVariants.{Nothing, Open}
 use Rattle.store.specs.declared.state.Last.TheVariants as last
-use Rattle.store.proofs.Laws.Tested.{refuse_go, said_go}
+use Rattle.store.proofs.Laws.Tested.{told_written, is_ok_at, refuse_go, said_go}
 
 -- ---- a repeat
 
@@ -137,23 +133,13 @@ first_case : (c : Current) (used : ℕ) (old op opened : List ℕ) → c ≡ Not
 unfolding open_at open_new put
 first_case c used old op opened e = rw e (ap (λ (k : ℕ). counted k (over op opened)) (zero-add (length op)))
 
-written_pair : (w : Written) (out : List ℕ) (k : ℕ) (new : List ℕ) → ◌≡◌ {A = Answer × List ℕ} (of_written w, out) (done (k ∷ []), new) → ◌≡◌ {A = ℕ × List ℕ} (written_of w, out) (k, new)
-written_pair (written.Done j) out k new e =
-    let x : done (j ∷ []) ≡ done (k ∷ []) = ap (λ (y : Answer × List ℕ). y.0) e in
-    let z : j ≡ k = cc in
-    ap₂ (λ (u : ℕ) (v : List ℕ). (u, v)) z (ap (λ (y : Answer × List ℕ). y.1) e)
-written_pair (written.Refused r) out k new e =
-    let x : answer.refused (number_of r) ≡ done (k ∷ []) = ap (λ (y : Answer × List ℕ). y.0) e in
-    let z : ◌≡◌ {A = ℕ} 0 1 = cc in absurd (omega arith)
-
-appended_pair : (w : Appended) (out : List ℕ) (k m : ℕ) (new : List ℕ) → ◌≡◌ {A = Answer × List ℕ} (of_appended w, out) (done (k ∷ m ∷ []), new) → ◌≡◌ {A = ℕ × List ℕ} (appended_of w, out) (k, new)
-appended_pair (appended.Done j v) out k m new e =
-    let x : done (j ∷ v ∷ []) ≡ done (k ∷ m ∷ []) = ap (λ (y : Answer × List ℕ). y.0) e in
-    let z : j ≡ k = cc in
-    ap₂ (λ (u : ℕ) (v : List ℕ). (u, v)) z (ap (λ (y : Answer × List ℕ). y.1) e)
-appended_pair (appended.Refused r) out k m new e =
-    let x : answer.refused (number_of r) ≡ done (k ∷ m ∷ []) = ap (λ (y : Answer × List ℕ). y.0) e in
-    let z : ◌≡◌ {A = ℕ} 0 1 = cc in absurd (omega arith)
+told_appended : (w : Result Appended Refusal) (k m : ℕ) → of_appended w ≡ done (k ∷ m ∷ []) → w ≡ Ok (record { runs = k; vertices = m })
+told_appended (Ok a) k m e =
+    let x : a.runs ≡ k = cc in
+    let y : a.vertices ≡ m = cc in
+    let d : ◌≡◌ {A = Appended} a (record { runs = k; vertices = m }) = ap₂ (λ (u v : ℕ). record { runs = u; vertices = v }) x y in
+    ap Ok d
+told_appended (Err r) k m e = let z : ◌≡◌ {A = ℕ} 0 1 = cc in absurd (omega arith)
 
 -- what stands behind the first runs of a list
 over_put : (used : ℕ) (new old : List ℕ) → used ≤ length old → over (take used old ++ new) old ≡ put used new old
@@ -175,12 +161,24 @@ module _ (c : Cell) (n : ℕ) (back : Bool) (piece opened : List ℕ) (a : OpenR
       let k : length (oriented r n piece) ≤ length out = omega (arith, oriented_long r n piece) in
       rw (le-ltb _ _ few, steady_sharp n piece a.is_sharp, le-ltb _ _ k)
 
-  pub first_put : (w : Written) (k : ℕ) (out : List ℕ) → c.current ≡ Nothing → k ≡ written_of w → ◌≡◌ {A = Answer × List ℕ} (of_written w, out) (orient_into piece n back opened) → ◌≡◌ {A = ℕ × List ℕ} (k, out) (open_after c n back piece opened)
-  first_put w k out e h q =
-      let r : length (oriented back n piece) ≤ length opened = room_first c.current c.opened.used old (oriented back n piece) (length opened) e a.room in
-      let l : length piece ≤ length opened = omega (arith, oriented_long back n piece) in
-      let d : ◌≡◌ {A = Answer × List ℕ} (of_written w, out) (done (length (oriented back n piece) ∷ []), over (oriented back n piece) opened) = q ∙ oriented_into back opened (few_first e) l in
-      ap (λ (j : ℕ). counted j out) h ∙ written_pair w out (length (oriented back n piece)) (over (oriented back n piece) opened) d ∙ sym (first_case c.current c.opened.used old (oriented back n piece) opened e)
+  module _ (w : Result ℕ Refusal) (out : List ℕ) (e : c.current ≡ Nothing) (q : ◌≡◌ {A = Answer × List ℕ} (of_written w, out) (orient_into piece n back opened)) where
+    first_said : ◌≡◌ {A = Answer × List ℕ} (of_written w, out) (done (length (oriented back n piece) ∷ []), over (oriented back n piece) opened)
+    first_said =
+        let r : length (oriented back n piece) ≤ length opened = room_first c.current c.opened.used old (oriented back n piece) (length opened) e a.room in
+        let l : length piece ≤ length opened = omega (arith, oriented_long back n piece) in
+        q ∙ oriented_into back opened (few_first e) l
+
+    first_told : w ≡ Ok (length (oriented back n piece))
+    first_told = told_written w _ (ap (λ (y : Answer × List ℕ). y.0) first_said)
+
+    pub first_ok : IsOk w
+    first_ok = is_ok_at w _ first_told
+
+    pub first_put : (k : ℕ) → w ≡ Ok k → ◌≡◌ {A = ℕ × List ℕ} (k, out) (open_after c n back piece opened)
+    first_put k h =
+        let x : ◌≡◌ {A = Result ℕ Refusal} (Ok k) (Ok (length (oriented back n piece))) = sym h ∙ first_told in
+        let z : k ≡ length (oriented back n piece) = cc in
+        ap₂ counted z (ap (λ (y : Answer × List ℕ). y.1) first_said) ∙ sym (first_case c.current c.opened.used old (oriented back n piece) opened e)
 
   module _ (m : ℕ) (e : c.current ≡ Open m) where
     open_sharp : (o : Current) (k : ℕ) (op : List ℕ) → o ≡ Open k → open_test o old op (Ok tt) ≡ Ok tt → sharp k old ≡ true
@@ -204,13 +202,22 @@ module _ (c : Cell) (n : ℕ) (back : Bool) (piece opened : List ℕ) (a : OpenR
         let l : length (old ++ appendix (last_coord old) m (oriented back n piece)) ≤ length opened = omega (arith, length-append old (appendix (last_coord old) m (oriented back n piece)), length-take-le c.opened.used opened a.used) in
         rw (le-ltb _ _ a.used, counts_fine, sharp_joinable m old (open_sharp c.current m (oriented back n piece) e a.meets), a.is_sharp, le-ltb _ _ l)
 
-    pub behind_put : (w : Appended) (k : ℕ) (out : List ℕ) → k ≡ appended_of w → ◌≡◌ {A = Answer × List ℕ} (of_appended w, out) (append_into opened c.opened.used m piece n back) → ◌≡◌ {A = ℕ × List ℕ} (k, out) (open_after c n back piece opened)
-    unfolding open_at open_new
-    behind_put w k out h q =
-        let new : List ℕ = appendix (last_coord old) m (oriented back n piece) in
-        let l : length (old ++ appendix (last_coord old) m (oriented back n piece)) ≡ c.opened.used + length (appendix (last_coord old) m (oriented back n piece)) = length-append old new ∙ ap (λ (j : ℕ). j + length new) (length-take-le c.opened.used opened a.used) in
-        let d = appended_pair w out _ _ _ (q ∙ appended_into) in
-        rw (e, h) (d ∙ ap₂ (λ (u : ℕ) (v : List ℕ). (u, v)) l (over_put c.opened.used new opened a.used))
+    module _ (w : Result Appended Refusal) (out : List ℕ) (q : ◌≡◌ {A = Answer × List ℕ} (of_appended w, out) (append_into opened c.opened.used m piece n back)) where
+      behind_told : w ≡ Ok (record { runs = length (old ++ appendix (last_coord old) m (oriented back n piece)); vertices = m + n - 1 })
+      behind_told = told_appended w _ _ (ap (λ (y : Answer × List ℕ). y.0) (q ∙ appended_into))
+
+      pub behind_ok : IsOk w
+      behind_ok = is_ok_at w _ behind_told
+
+      pub behind_put : (d : Appended) → w ≡ Ok d → ◌≡◌ {A = ℕ × List ℕ} (d.runs, out) (open_after c n back piece opened)
+      unfolding open_at open_new
+      behind_put d h =
+          let new : List ℕ = appendix (last_coord old) m (oriented back n piece) in
+          let l : length (old ++ appendix (last_coord old) m (oriented back n piece)) ≡ c.opened.used + length (appendix (last_coord old) m (oriented back n piece)) = length-append old new ∙ ap (λ (j : ℕ). j + length new) (length-take-le c.opened.used opened a.used) in
+          let x : ◌≡◌ {A = Result Appended Refusal} (Ok d) (Ok (record { runs = length (old ++ appendix (last_coord old) m (oriented back n piece)); vertices = m + n - 1 })) = sym h ∙ behind_told in
+          let y : d ≡ record { runs = length (old ++ appendix (last_coord old) m (oriented back n piece)); vertices = m + n - 1 } = cc in
+          let z : d.runs ≡ length (old ++ appendix (last_coord old) m (oriented back n piece)) = ap (λ (v : Appended). v.runs) y in
+          rw e (ap₂ (λ (u : ℕ) (v : List ℕ). (u, v)) (z ∙ l) (ap (λ (v : Answer × List ℕ). v.1) (q ∙ appended_into) ∙ over_put c.opened.used new opened a.used))
 
 -- ---- with the held piece and the state
 
@@ -222,14 +229,30 @@ few_piece (Open m) n b h =
     omega arith
 
 module _ (c : Cell) (n : ℕ) (back : Bool) (piece opened held : List ℕ) (j : JoinReady c n back piece opened (length held)) where
-  pub held_piece : (a : Answer) (held' : List ℕ) → ◌≡◌ {A = Answer × List ℕ} (a, held') (orient_into piece n false held) → held' ≡ over piece held
-  held_piece a held' e = ap (λ (y : Answer × List ℕ). y.1) (e ∙ oriented_into c n back piece opened j.ready false held (few_piece c.current n j.ready.current j.ready.few) j.room)
+  module _ (w : Result ℕ Refusal) (held' : List ℕ) (e : ◌≡◌ {A = Answer × List ℕ} (of_written w, held') (orient_into piece n false held)) where
+    held_said : ◌≡◌ {A = Answer × List ℕ} (of_written w, held') (done (length (oriented false n piece) ∷ []), over (oriented false n piece) held)
+    held_said = e ∙ oriented_into c n back piece opened j.ready false held (few_piece c.current n j.ready.current j.ready.few) j.room
 
-  pub joined_filed : (i k count : ℕ) (a : Answer) (opened' held' : List ℕ) → ◌≡◌ {A = ℕ × List ℕ} (k, opened') (open_after c n back piece opened) → ◌≡◌ {A = Answer × List ℕ} (a, held') (orient_into piece n false held)
+    held_told : w ≡ Ok (length (oriented false n piece))
+    held_told = told_written w _ (ap (λ (y : Answer × List ℕ). y.0) held_said)
+
+    pub held_ok : IsOk w
+    held_ok = is_ok_at w _ held_told
+
+    held_kept : (kept : ℕ) → w ≡ Ok kept → kept ≡ length piece
+    held_kept kept h =
+        let x : ◌≡◌ {A = Result ℕ Refusal} (Ok kept) (Ok (length (oriented false n piece))) = sym h ∙ held_told in
+        let z : kept ≡ length (oriented false n piece) = cc in
+        z ∙ oriented_long false n piece
+
+    held_piece : held' ≡ over piece held
+    held_piece = ap (λ (y : Answer × List ℕ). y.1) held_said
+
+  pub joined_filed : (i k count kept : ℕ) (w : Result ℕ Refusal) (opened' held' : List ℕ) → ◌≡◌ {A = ℕ × List ℕ} (k, opened') (open_after c n back piece opened) → ◌≡◌ {A = Answer × List ℕ} (of_written w, held') (orient_into piece n false held) → w ≡ Ok kept
       → count ≡ open_count c.current n
-      → ◌≡◌ {A = Answer × Cell × List ℕ × List ℕ} (done (count ∷ []), after c c.records.used c.sets k (length piece) (Open count) i (last.Join n back) count, opened', held') (join_filed c i n back piece opened held)
+      → ◌≡◌ {A = Answer × Cell × List ℕ × List ℕ} (done (count ∷ []), after c c.records.used c.sets k kept (Open count) i (last.Join n back) count, opened', held') (join_filed c i n back piece opened held)
   unfolding join_filed_at
-  joined_filed i k count a opened' held' p q m =
+  joined_filed i k count kept w opened' held' p q h m =
       let x : k ≡ open_at c.current c.opened.used + length (open_new c.current (take c.opened.used opened) (oriented back n piece)) = ap (λ (y : ℕ × List ℕ). y.0) p in
       let y : opened' ≡ put (open_at c.current c.opened.used) (open_new c.current (take c.opened.used opened) (oriented back n piece)) opened = ap (λ (y : ℕ × List ℕ). y.1) p in
-      rw (m, x, y, held_piece a held' q)
+      rw (m, x, y, held_piece w held' q, held_kept w held' q kept h)

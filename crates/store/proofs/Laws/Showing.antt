@@ -8,21 +8,22 @@ use native.Mathlib.Omega.{arith}
 use lib.ListN.{length, take, drop}
 use borrow.Author.Tests.{le-ltb, eq-eqb, ne_eqb, leb-false}
 use Rattle.std.proofs.Common.{Result, Ok, Err}
+use Rattle.std.specs.Result.{result_ok}
 use Rattle.base.specs.Answers.{Answer, done, number_of, of_given}
 use Rattle.base.specs.Answers as answer
 use Rattle.base.specs.Parts.{over}
 use Rattle.base.specs.Tests.{◌when◌else◌}
 use Rattle.base.specs.declared.Given.{Given}
-use Rattle.base.specs.declared.Given.TheVariants as given
 use Rattle.base.specs.declared.Refusal.{Refusal}
 use Rattle.base.specs.declared.Refusal.TheVariants.{Damaged, Place, Space}
 use Rattle.base.proofs.Bools.{or_none, via}
 use Rattle.base.proofs.Tests.{when_no, when_yes}
 use Rattle.codec.specs.Records.{ReadRecord, bad_colors, read_by, read_into, read_record}
 use Rattle.codec.specs.Records as records
-use Rattle.runs.specs.Bytes.{sharp_colour}
+use Rattle.runs.specs.Bytes.{of_colored, sharp_colour}
 use Rattle.store.specs.Altered.{altered}
 use Rattle.store.specs.Filed.{set_at, set_from, set_in}
+use Rattle.store.specs.Inside.Places.{option_of}
 use Rattle.store.specs.Inside.Showing.{by_seek, damage_or, of_read, place_by, seek_by, seek_of}
 use Rattle.store.specs.Plain.{Lengths}
 use Rattle.store.specs.Show.{coord_from, no_place, set_by, show_step, shown_by, told_coord, vertex_coord, vertex_set, with_state}
@@ -35,9 +36,13 @@ use Rattle.store.proofs.Laws.Parts.{part_is}
 
 -- ---- the coordinate of a vertex
 
-pub from_there : (s : Shared) (runs : List ℕ) (at n v : ℕ) → n ≤ 16777215 → at ≤ s.runs.used → (a : Answer) → a ≡ sharp_colour n v (take (s.runs.used - at) (drop at runs)) → told_coord a ≡ coord_from s runs at n v
+colored : (w : Result ℕ Refusal) → option_of (result_ok w) ≡ told_coord (of_colored w)
+colored (Ok coord) = refl
+colored (Err r) = refl
+
+pub from_there : (s : Shared) (runs : List ℕ) (at n v : ℕ) → n ≤ 16777215 → at ≤ s.runs.used → (w : Result ℕ Refusal) → of_colored w ≡ sharp_colour n v (take (s.runs.used - at) (drop at runs)) → option_of (result_ok w) ≡ coord_from s runs at n v
 unfolding coord_from ◌when◌else◌
-from_there s runs at n v h k a e = ap (λ (x : Answer). told_coord x) e ∙ rw (le-ltb _ _ h, le-ltb _ _ k, part_is at s.runs.used runs k)
+from_there s runs at n v h k w e = colored w ∙ ap (λ (x : Answer). told_coord x) e ∙ rw (le-ltb _ _ h, le-ltb _ _ k, part_is at s.runs.used runs k)
 
 -- ---- 14, 5
 
@@ -77,28 +82,28 @@ damage_is : (r : Refusal) → (number_of r ≡ 3 → ⊥) → damage_or r ≡ Da
 unfolding damage_or
 damage_is r n = when_no _ _ _ (ne_eqb (number_of r) 3 n)
 
-read_space : (g : Given) → of_given g ≡ answer.refused 3 → of_answer (of_read g) ≡ answer.refused 3
-read_space (given.Done items bytes) e = let z : ◌≡◌ {A = ℕ} 0 1 = cc in absurd (omega arith)
-read_space (given.Refused r) e = let n : number_of r ≡ 3 = cc in ap (λ (x : Refusal). answer.refused (number_of x)) (space_is r n)
+read_space : (g : Result Given Refusal) → of_given g ≡ answer.refused 3 → of_answer (of_read g) ≡ answer.refused 3
+read_space (Ok g) e = let z : ◌≡◌ {A = ℕ} 0 1 = cc in absurd (omega arith)
+read_space (Err r) e = let n : number_of r ≡ 3 = cc in ap (λ (x : Refusal). answer.refused (number_of x)) (space_is r n)
 
-read_damage : (g : Given) (k : ℕ) → (k ≡ 3 → ⊥) → of_given g ≡ answer.refused k → of_answer (of_read g) ≡ answer.refused 5
-read_damage (given.Done items bytes) k n e = let z : ◌≡◌ {A = ℕ} 0 1 = cc in absurd (omega arith)
-read_damage (given.Refused r) k n e = let m : number_of r ≡ k = cc in ap (λ (x : Refusal). answer.refused (number_of x)) (damage_is r (λ q. n (sym m ∙ q)))
+read_damage : (g : Result Given Refusal) (k : ℕ) → (k ≡ 3 → ⊥) → of_given g ≡ answer.refused k → of_answer (of_read g) ≡ answer.refused 5
+read_damage (Ok g) k n e = let z : ◌≡◌ {A = ℕ} 0 1 = cc in absurd (omega arith)
+read_damage (Err r) k n e = let m : number_of r ≡ k = cc in ap (λ (x : Refusal). answer.refused (number_of x)) (damage_is r (λ q. n (sym m ∙ q)))
 
-read_done : (g : Given) (k m : ℕ) → of_given g ≡ done (k ∷ m ∷ []) → of_answer (of_read g) ≡ done (k ∷ [])
-read_done (given.Done items bytes) k m e = let x : items ≡ k = cc in ap (λ (j : ℕ). done (j ∷ [])) x
-read_done (given.Refused r) k m e = let z : ◌≡◌ {A = ℕ} 0 1 = cc in absurd (omega arith)
+read_done : (g : Result Given Refusal) (k m : ℕ) → of_given g ≡ done (k ∷ m ∷ []) → of_answer (of_read g) ≡ done (k ∷ [])
+read_done (Ok g) k m e = let x : g.items ≡ k = cc in ap (λ (j : ℕ). done (j ∷ [])) x
+read_done (Err r) k m e = let z : ◌≡◌ {A = ℕ} 0 1 = cc in absurd (omega arith)
 
 abbrev pair : Answer → List ℕ → Answer × List ℕ
 pair a l = (a, l)
 
-found_by : (t : Bool) (g : Given) (out' ids out : List ℕ) (m : ℕ) → pair (of_given g) out' ≡ ◌when◌else◌ (pair (answer.refused 3) out) t (pair (done (length ids ∷ m ∷ [])) (over ids out))
+found_by : (t : Bool) (g : Result Given Refusal) (out' ids out : List ℕ) (m : ℕ) → pair (of_given g) out' ≡ ◌when◌else◌ (pair (answer.refused 3) out) t (pair (done (length ids ∷ m ∷ [])) (over ids out))
     → pair (of_answer (of_read g)) out' ≡ ◌when◌else◌ (pair (answer.refused 3) out) t (pair (done (length ids ∷ [])) (over ids out))
 unfolding ◌when◌else◌
 found_by true g out' ids out m e = ap₂ pair (read_space g (ap (λ (x : Answer × List ℕ). x.0) e)) (ap (λ (x : Answer × List ℕ). x.1) e)
 found_by false g out' ids out m e = ap₂ pair (read_done g (length ids) m (ap (λ (x : Answer × List ℕ). x.0) e)) (ap (λ (x : Answer × List ℕ). x.1) e)
 
-shown_by_lem : (r : ReadRecord) (g : Given) (total : ℕ) (out' out : List ℕ) → pair (of_given g) out' ≡ read_by r total out → pair (of_answer (of_read g)) out' ≡ shown_by (set_in r) out
+shown_by_lem : (r : ReadRecord) (g : Result Given Refusal) (total : ℕ) (out' out : List ℕ) → pair (of_given g) out' ≡ read_by r total out → pair (of_answer (of_read g)) out' ≡ shown_by (set_in r) out
 unfolding read_by shown_by set_in
 shown_by_lem (records.found ids rest) g total out' out e = found_by _ g out' ids out _ e
 shown_by_lem records.short g total out' out e =
@@ -108,7 +113,7 @@ shown_by_lem records.damaged g total out' out e =
     let n : ◌≡◌ {A = ℕ} 5 3 → ⊥ = λ z. omega arith in
     ap₂ pair (read_damage g 5 n (ap (λ (x : Answer × List ℕ). x.0) e)) (ap (λ (x : Answer × List ℕ). x.1) e)
 
-pub given_set : (g : Given) (a : Result ℕ Refusal) (N : ℕ) (c : Cell) (file out' out : List ℕ) (at : ℕ) → at ≤ c.records.used → bad_colors N ≡ false → a ≡ of_read g
+pub given_set : (g : Result Given Refusal) (a : Result ℕ Refusal) (N : ℕ) (c : Cell) (file out' out : List ℕ) (at : ℕ) → at ≤ c.records.used → bad_colors N ≡ false → a ≡ of_read g
     → ◌≡◌ {A = Answer × List ℕ} (of_given g, out') (read_into N (take (c.records.used - at) (drop at file)) out) → ◌≡◌ {A = Answer × List ℕ} (of_answer a, out') (shown_by (set_from N c file (some at)) out)
 unfolding read_into set_from
 given_set g a N c file out' out at h b k e =

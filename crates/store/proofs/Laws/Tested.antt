@@ -1,26 +1,23 @@
 -- The cases of the tests that every call begins with, as `search` looks for them.
 use Prim.Native.Nat.{ℕ, ◌≤◌, ◌<◌}
-use mathlib.Core.Path.{◌≡◌, refl, sym}
+use mathlib.Core.Path.{◌≡◌, refl, sym, ap}
 use mathlib.Core.Bool.{Bool, true, false}
 use mathlib.Core.List.{[], ◌∷◌}
 use native.Mathlib.Omega.{arith}
 use borrow.Author.Tests.{eqb-true, eqb-false, not-false, ltb-false}
-use Rattle.std.proofs.Common.{Result, Ok, Err, None}
-use Rattle.base.specs.Answers.{done, of_written}
+use Rattle.std.proofs.Common.{Result, Ok, Err, None, IsOk}
+use Rattle.base.specs.Answers.{of_made, done, of_written}
 use Rattle.base.specs.Tests.{◌when◌else◌}
 use Rattle.base.specs.declared.Refusal.{Refusal}
 use Rattle.base.specs.declared.Refusal.TheVariants.{Colors, Space}
-use Rattle.base.specs.declared.Written.{Written}
-use Rattle.base.specs.declared.Written.TheVariants as written
 use Rattle.base.proofs.Bools.{or_none, via}
 use Rattle.base.proofs.Tests.{none_of}
 use Rattle.store.specs.Altered.{altered, altered_buffer, altered_cell, altered_shared}
-use Rattle.store.specs.Inside.Counts.{written_of}
 use Rattle.store.specs.Inside.Fits.{Fits, Unaltered}
 use Rattle.store.specs.Numbered.{Gate, Test, by_sequence, numbered, repeated, tested}
 use Rattle.store.specs.Plain.{CellLengths, Lengths}
 use Rattle.store.specs.Start.{bad_cell_lengths, bad_lengths, bad_limits, start_step, too_long, unstarted}
-use Rattle.store.specs.State.{Bufs, Outcome, lengths_of, of_started}
+use Rattle.store.specs.State.{Bufs, Outcome, lengths_of}
 use Rattle.store.specs.declared.numbered.Sequence.{Sequence}
 use Rattle.store.specs.declared.numbered.Sequence.TheVariants.{New, Repeat}
 use Rattle.store.specs.declared.state.Cell.{Cell}
@@ -83,11 +80,14 @@ pub said_go : (c : Cell) (i : ℕ) (same : Bool) (tests : Test) → Ok None ≡ 
 unfolding numbered
 said_go c i same tests e = sequence_go _ _ tests (repeated_not_go same c.answer) (sym e)
 
--- ---- how many bytes an answer tells
+-- ---- what a write told
 
-pub count_told : (w : Written) (k : ℕ) → of_written w ≡ done (k ∷ []) → written_of w ≡ k
-count_told (written.Done n) k e = cc
-count_told (written.Refused r) k e = let z : ◌≡◌ {A = ℕ} 0 1 = cc in absurd (omega arith)
+pub is_ok_at : {T : Type 0} (w : Result T Refusal) (x : T) → w ≡ Ok x → IsOk w
+is_ok_at w x e = rw e refl
+
+pub told_written : (w : Result ℕ Refusal) (k : ℕ) → of_written w ≡ done (k ∷ []) → w ≡ Ok k
+told_written (Ok n) k e = let z : n ≡ k = cc in ap Ok z
+told_written (Err r) k e = let z : ◌≡◌ {A = ℕ} 0 1 = cc in absurd (omega arith)
 
 -- ---- start
 
@@ -101,11 +101,11 @@ pub some_entry : (r : Bool) (l now : Lengths) → l ≡ now → r ≡ bad_length
 unfolding bad_lengths
 some_entry r l now d e h = rw (← d) (some_index l.cell (or_none _ _ (via e h)).0)
 
-pub start_limits : (r : Bool) (q : Told Store (Unit {0})) (N W : ℕ) (b : Bufs) → r ≡ bad_limits N W → r ≡ true → q ≡ unstarted Colors → ◌≡◌ {A = Outcome} (of_started q.answer, q.state, b) (start_step N W b)
+pub start_limits : (r : Bool) (q : Told Store (Unit {0})) (N W : ℕ) (b : Bufs) → r ≡ bad_limits N W → r ≡ true → q ≡ unstarted Colors → ◌≡◌ {A = Outcome} (of_made q.answer, q.state, b) (start_step N W b)
 unfolding start_step ◌when◌else◌
 start_limits r q N W b e h k = rw (via e h, k)
 
-pub start_lengths : (r q : Bool) (t : Told Store (Unit {0})) (N W : ℕ) (l : Lengths) (b : Bufs) → r ≡ bad_limits N W → r ≡ false → l ≡ lengths_of b → q ≡ bad_lengths l → q ≡ true → t ≡ unstarted Space → ◌≡◌ {A = Outcome} (of_started t.answer, t.state, b) (start_step N W b)
+pub start_lengths : (r q : Bool) (t : Told Store (Unit {0})) (N W : ℕ) (l : Lengths) (b : Bufs) → r ≡ bad_limits N W → r ≡ false → l ≡ lengths_of b → q ≡ bad_lengths l → q ≡ true → t ≡ unstarted Space → ◌≡◌ {A = Outcome} (of_made t.answer, t.state, b) (start_step N W b)
 unfolding start_step ◌when◌else◌
 start_lengths r q t N W l b e h d k m u = rw (via e h, ← d, via k m, u)
 

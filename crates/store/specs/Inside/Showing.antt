@@ -4,7 +4,6 @@ use Rattle.std.proofs.Math.Option.{Option, none, some}
 use Rattle.base.specs.Answers.{Answer, number_of, refused}
 use Rattle.base.specs.Tests.{◌when◌else◌}
 use Rattle.base.specs.declared.Given.{Given}
-use Rattle.base.specs.declared.Given.TheVariants as given
 use Rattle.base.specs.declared.Refusal.{Refusal}
 use Rattle.base.specs.declared.Refusal.TheVariants.{Damaged, Place, Space}
 use Rattle.store.specs.Filed.{record_start, set_from}
@@ -34,6 +33,6 @@ by_seek s file (Ok at) out = shown_by (set_from s.colors s.cell file (some at)) 
 unfoldable pub damage_or : Refusal → Refusal
 damage_or r = Space when eqb (number_of r) 3 else Damaged
 
-abbrev pub of_read : Given → Result ℕ Refusal
-of_read (given.Done items bytes) = Ok items
-of_read (given.Refused r) = Err (damage_or r)
+abbrev pub of_read : Result Given Refusal → Result ℕ Refusal
+of_read (Ok given) = Ok given.items
+of_read (Err r) = Err (damage_or r)

@@ -13,11 +13,11 @@ pub bounds-table-unitigs-2 : goal.bounds-table-unitigs-2
 bounds-table-unitigs-2 c = search (second_number)
 
 pub overflow_add-closed : goal.overflow_add-closed
-overflow_add-closed c = omega (arith, filed_small _ _ _ _ _ _ _ _ _ c.requires c.vertices-n.ensures c.file_runs.ensures _ c.in-Done.is)
+overflow_add-closed c = omega (arith, filed_small _ _ _ _ _ _ _ _ _ c.requires c.vertices-n.ensures c.file_runs.ensures _ c.in-Ok.is)
 
 pub overflow_add-closed-2 : goal.overflow_add-closed-2
 overflow_add-closed-2 c = let a = c.requires in omega (arith, a.pair, a.small_table)
 
 pub returns : goal.returns
 unfolding after with_unitig
-returns c = filed_done _ _ _ _ _ _ _ _ _ c.requires c.vertices-n.ensures c.file_runs.ensures _ _ _ c.in-Done.is
+returns c = filed_done _ _ _ _ _ _ _ _ _ c.requires c.vertices-n.ensures c.file_runs.ensures _ _ _ c.in-Ok.is

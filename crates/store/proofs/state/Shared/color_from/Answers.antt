@@ -1,8 +1,9 @@
+use mathlib.Core.Path.{◌∙◌, ap}
+use Rattle.std.proofs.Common.{Option}
+use Prim.Native.Nat.{ℕ}
+use Rattle.store.specs.Inside.Places.{option_of}
 use Rattle.store.proofs.Laws.Showing.{from_there}
 use Rattle.store.proofs.state.Shared.color_from.Goals as goal
 
-pub returns-in-At : goal.returns-in-At
-returns-in-At c = from_there _ _ _ _ _ c.if-n-gt16777215.false c.if-end-at.false _ c.in-At.ensures
-
-pub returns-in-Refused : goal.returns-in-Refused
-returns-in-Refused c = from_there _ _ _ _ _ c.if-n-gt16777215.false c.if-end-at.false _ c.in-Refused.ensures
+pub returns : goal.returns
+returns c = ap (λ (o : Option ℕ). option_of o) c.ok.ensures.value ∙ from_there _ _ _ _ _ c.if-n-gt16777215.false c.if-end-at.false _ c.sharp_color_at.ensures
