@@ -109,7 +109,7 @@ fn refusal_of(a: Result<u64, Refusal>) -> u32
 {
     match a {
         Ok(_) => 0,
-        Err(r) => base::number_of(r),
+        Err(r) => u32::from(r),
     }
 }
 
