@@ -5,8 +5,9 @@ ghost use Rattle.codec.specs.Records.{bad_colors};
 ghost use Rattle.store.specs.State.{bufs, of_answer};
 ghost use Rattle.store.specs.Filed.{set_from};
 ghost use Rattle.store.specs.Show.{coord_from, vertex_coord, no_place, shown_by, show_step, with_state};
+ghost use Rattle.store.specs.Inside.Fits.{ShowFits};
 ghost use Rattle.store.specs.Inside.Places.{option_of};
-ghost use Rattle.store.specs.Inside.Showing.{damage_or, of_read, seek_of};
+ghost use Rattle.store.specs.Inside.Showing.{by_seek, damage_or, of_read, seek_of};
 
 use crate::lengths::Lengths;
 use crate::state::{Cell, Shared, Store, Told};
@@ -93,10 +94,28 @@ impl Store {
         if self.shared.no_place(unitig, vertex, table) {
             return Err(Refusal::Place);
         }
-        let Some(coord) = self.shared.vertex_color(unitig, vertex, runs, table) else {
-            return Err(Refusal::Damaged);
-        };
+        let color = self.shared.vertex_color(unitig, vertex, runs, table);
+        let coord = color.ok_or(Refusal::Damaged)?;
         self.cell.record_start(coord, index).ok_or(Refusal::Damaged)
+    }
+
+    // The tests of a show but 15, and the set of the record that they find.
+    #[tactic(auto, unfolding(crate::specs::Inside::Showing::by_seek))]
+    fn shown(
+        self,
+        unitig: u32,
+        vertex: u32,
+        out: &mut [u32],
+        records: &[u8],
+        index: &[u64],
+        runs: &[u8],
+        table: &[u64],
+    ) -> Result<u64, Refusal>
+        requires { ShowFits self (length records.now) (length index.now) (length runs.now) (length table.now) }
+        ensures { (of_answer result, out.new) ≡ by_seek self records.now (seek_of self index.now runs.now table.now unitig vertex) out.old }
+    {
+        let at = self.seek(unitig, vertex, index, runs, table)?;
+        self.cell.give(self.colors, at, records, out)
     }
 
     // The ids of a vertex's set to the front of `out`; answers how many. Refusals 15, 14, 5, 3, in this order.
@@ -120,13 +139,9 @@ impl Store {
                 answer: Err(Refusal::Altered),
             };
         }
-        let answer = match self.seek(unitig, vertex, index, runs, table) {
-            Err(r) => Err(r),
-            Ok(at) => self.cell.give(self.colors, at, records, out),
-        };
         Told {
             state: self,
-            answer,
+            answer: self.shown(unitig, vertex, out, records, index, runs, table),
         }
     }
 }

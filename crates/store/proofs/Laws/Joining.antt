@@ -70,11 +70,6 @@ named_all W sets (r ∷ rs) = ap (λ (t : Bool). not (unnamed W sets (coordinate
 
 -- ---- 7, 5, 8, 3
 
-at_within : (k : Current) (used len : ℕ) → used ≤ len → open_at k used ≤ len
-unfolding open_at
-at_within Nothing used len h = omega arith
-at_within (Open m) used len h = h
-
 -- a piece that meets the open unitig loses its first run
 pub new_runs : (m : ℕ) (old op : List ℕ) → last_coord old ≡ first_coord op → length (open_new (Open m) old op) ≡ length op - 1
 unfolding open_new appendix

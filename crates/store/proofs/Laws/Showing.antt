@@ -151,9 +151,6 @@ module _ (q : Bool) (s : Store) (b : Bufs) (u v : ℕ) (out : List ℕ) (l : Len
   unfolding show_step
   show_altered h = ap (λ (x : Answer × List ℕ). with_state s x) (sym (when_yes _ _ _ (ap (λ (m : Lengths). altered s m) (sym d) ∙ via e h)))
 
-  module _ (h : q ≡ false) (k : Result ℕ Refusal) (m : k ≡ seek_of s b.cell.index b.shared.runs b.shared.table u v) where
-    sought : by_seek s b.cell.records k out ≡ show_step s b u v out
-    sought = ap (λ (y : Result ℕ Refusal). by_seek s b.cell.records y out) m ∙ sym (show_is s b u v out (ap (λ (n : Lengths). altered s n) (sym d) ∙ via e h))
-
-    pub shown_whole : (a : Answer) (out' : List ℕ) → ◌≡◌ {A = Answer × List ℕ} (a, out') (by_seek s b.cell.records k out) → ◌≡◌ {A = Answer × Store × List ℕ} (a, s, out') (with_state s (show_step s b u v out))
-    shown_whole a out' p = ap (λ (x : Answer × List ℕ). with_state s x) (p ∙ sought)
+  pub shown_whole : q ≡ false → (a : Answer) (out' : List ℕ) → ◌≡◌ {A = Answer × List ℕ} (a, out') (by_seek s b.cell.records (seek_of s b.cell.index b.shared.runs b.shared.table u v) out)
+      → ◌≡◌ {A = Answer × Store × List ℕ} (a, s, out') (with_state s (show_step s b u v out))
+  shown_whole h a out' p = ap (λ (x : Answer × List ℕ). with_state s x) (p ∙ sym (show_is s b u v out (ap (λ (n : Lengths). altered s n) (sym d) ∙ via e h)))

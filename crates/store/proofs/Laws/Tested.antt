@@ -43,10 +43,15 @@ unaltered s now e =
     let h = none_of _ a.1.1.0 in
     let opened = fits _ _ _ c.1.1.0 in
     let current = c.1.1.1.1.1.0 in
+    let records = fits _ _ _ c.0 in
+    let index = fits _ _ _ c.1.0 in
+    let runs = fits _ _ _ h.0 in
+    let table = fits _ _ _ h.1.0 in
     record {
-      add = record { colors = a.0; records = fits _ _ _ c.0; index = fits _ _ _ c.1.0 };
+      add = record { colors = a.0; records = records; index = index };
       join = record { opened = opened; held = fits _ _ _ c.1.1.1.0; current = current };
-      close = record { opened = opened; current = current; runs = fits _ _ _ h.0; table = fits _ _ _ h.1.0 };
+      close = record { opened = opened; current = current; runs = runs; table = table };
+      show = record { colors = a.0; records = records.inside; index = omega (arith, index.inside); runs = runs.inside; table = table.inside };
     }
 
 pub said_unaltered : (r : Bool) (s : Store) (l now : Lengths) → l ≡ now → r ≡ altered s l → r ≡ false → Unaltered s now

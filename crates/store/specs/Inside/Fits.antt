@@ -36,11 +36,19 @@ pub record CloseFits (c : Cell) (s : Shared) (o r t : ℕ) : Type 0 where
   pub runs : Fits s.runs.length s.runs.used r
   pub table : Fits s.table (2 * s.unitigs) t
 
+pub record ShowFits (s : Store) (f i r t : ℕ) : Type 0 where
+  pub colors : bad_colors s.colors ≡ false
+  pub records : s.cell.records.used ≤ f
+  pub index : s.cell.sets < i
+  pub runs : s.shared.runs.used ≤ r
+  pub table : 2 * s.shared.unitigs ≤ t
+
 -- 15 is not found
 pub record Unaltered (s : Store) (now : Lengths) : Type 0 where
   pub add : AddFits s.colors s.cell now.cell.records now.cell.index
   pub join : JoinFits s.cell now.cell.opened now.cell.held
   pub close : CloseFits s.cell s.shared now.cell.opened now.shared.runs now.shared.table
+  pub show : ShowFits s now.cell.records now.cell.index now.shared.runs now.shared.table
 
 -- where add may go
 pub record AddReady (N : ℕ) (c : Cell) (ids : List ℕ) (records index : ℕ) : Type 0 where

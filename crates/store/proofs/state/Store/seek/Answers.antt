@@ -2,5 +2,5 @@ use borrow.Author.Rules.{rules}
 use Rattle.store.proofs.Laws.Showing.{place_counted}
 use Rattle.store.proofs.state.Store.seek.Goals as goal
 
-pub vertex_color-requires : goal.vertex_color-requires
-vertex_color-requires c = search (place_counted, rules)
+pub vertex_color-color-requires : goal.vertex_color-color-requires
+vertex_color-color-requires c = search (place_counted, rules)
