@@ -18,3 +18,4 @@ pub mod Widths
 pub mod Claims
 pub mod Readings
 pub mod Numbered
+pub mod Turned

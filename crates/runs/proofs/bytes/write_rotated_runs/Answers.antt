@@ -1,10 +1,9 @@
 -- `runs::bytes::write_rotated_runs` meets its contract.
-use Rattle.std.proofs.Common.{List, ℕ, length, refl, sym, ap, ◌∙◌, arith}
+use Rattle.std.proofs.Common.{List, ℕ, length, sym, ap, ◌∙◌, arith}
 use Rattle.std.proofs.lemmas.Result.{err_from_is_err_and}
-use Rattle.std.proofs.lemmas.Iterator.Consumers.{YieldsList-from_first}
-use Rattle.runs.specs.Inside.Turned.{ahead}
 use Rattle.runs.specs.Bytes.{write_runs}
 use Rattle.runs.proofs.Laws.Cursor.{rotate_few}
+use Rattle.runs.proofs.Laws.Turned.{gives_ahead, yields_ahead}
 use Rattle.runs.proofs.Laws.Answers.{rotated_refused, rotated_written}
 use Rattle.runs.proofs.bytes.write_rotated_runs.Goals as goal
 
@@ -14,9 +13,7 @@ returns-in_err-check_steady c =
     rw (p.1, p.2) (rotated_refused _ _ _ _ _ _ c.in_err-check_steady.ensures)
 
 pub write-requires : goal.write-requires
-write-requires c =
-    let all = ahead c.turned-cycle.result in
-    record { asked = tt; ends = (tt, omega (arith, c.count-count.ensures)); all = all; gives = YieldsList-from_first (λ x. x) ahead all refl; few = omega (arith, c.count-count.ensures) }
+write-requires c = yields_ahead c.turned-cycle.result _ tt (omega (arith, c.count-count.ensures))
 
 pub overflow_cast-count : goal.overflow_cast-count
 overflow_cast-count c =
@@ -25,7 +22,6 @@ overflow_cast-count c =
 
 pub returns : goal.returns
 returns c =
-    let all = ahead c.turned-cycle.result in
-    c.write.ensures all (YieldsList-from_first (λ x. x) ahead all refl) (sym c.count-count.ensures)
+    c.write.ensures _ (gives_ahead c.turned-cycle.result) (sym c.count-count.ensures)
     ∙ ap (λ (rs : List ℕ). write_runs rs c.args.out.now) c.turned-cycle.ensures
     ∙ rotated_written _ _ _ _ _ c.in_ok-check_steady.ensures
