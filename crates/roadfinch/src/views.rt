@@ -1,40 +1,24 @@
 // What the store holds, in text.
-use crate::buffers::{File, Output, Words32k, Words64k};
-use crate::say;
-use base::Given;
-use shell::{fields, lists};
+use crate::memory::Memory;
+use crate::output::Output;
+use shell::fields::{front, part};
 use std::io;
 use store::state::{Current, Store};
 
-fn at_or(xs: &[u64], i: usize) -> u64 {
-    if i < xs.len() {
-        return xs[i];
-    }
-    0
-}
-
 // The used bytes of the record file.
-pub(crate) fn records(
-    store: Store,
-    bytes: &File,
-    at: usize,
-    out: &mut Output,
-) -> io::Result<usize> {
-    let cell = store.cell;
-    say::hex(fields::part(bytes, 0, cell.records.used), at, out)
+pub(crate) fn records(store: Store, memory: &Memory, out: &mut Output) -> io::Result<()> {
+    out.text(b"ok ")?;
+    out.hex(front(&memory.records, store.cell.records.used))?;
+    out.text(b"\n")
 }
 
 // One entry more than there are sets.
-pub(crate) fn index(
-    store: Store,
-    entries: &Words64k,
-    at: usize,
-    out: &mut Output,
-) -> io::Result<usize> {
-    let cell = store.cell;
-    let a = say::text(b"ok", at, out)?;
-    let b = say::words(lists::front_runs(entries, cell.sets as usize + 1), a, out)?;
-    say::newline(b, out)
+pub(crate) fn index(store: Store, memory: &Memory, out: &mut Output) -> io::Result<()> {
+    out.text(b"ok")?;
+    for entry in front(&memory.index, store.cell.sets as usize + 1) {
+        out.named(b" ", *entry)?;
+    }
+    out.text(b"\n")
 }
 
 // A unitig: its place, its vertex count and its runs.
@@ -42,101 +26,55 @@ fn unitig(
     place: usize,
     n: u64,
     bytes: &[u8],
-    piece: &mut Words64k,
-    at: usize,
+    piece: &mut [u64],
     out: &mut Output,
-) -> io::Result<usize> {
-    let a = say::number(place as u64, at, out)?;
-    let b = say::text(b" ", a, out)?;
-    let c = say::number(n, b, out)?;
+) -> io::Result<()> {
+    out.number(place as u64)?;
+    out.named(b" ", n)?;
     match runs::bytes::read_unitig_color_runs(bytes, piece) {
-        Given::Done { items, bytes: _ } => {
-            let d = say::pairs(lists::front_runs(piece, items), c, out)?;
-            say::newline(d, out)
+        Ok(given) => {
+            out.runs(front(piece, given.items))?;
+            out.text(b"\n")
         }
-        Given::Refused(_) => say::text(b" unreadable\n", c, out),
+        Err(_) => out.text(b" unreadable\n"),
     }
 }
 
 // How many unitigs are closed, then a line each.
 pub(crate) fn unitigs(
     store: Store,
-    files: &File,
-    table: &Words32k,
-    piece: &mut Words64k,
-    at: usize,
+    memory: &Memory,
+    piece: &mut [u64],
     out: &mut Output,
-) -> io::Result<usize> {
+) -> io::Result<()> {
     let shared = store.shared;
-    let count = shared.unitigs as usize;
-    let end = shared.runs.used;
-    let mut to = say::done(count as u64, at, out)?;
-    let mut i: usize = 0;
-    while i < count {
-        let start = at_or(table, 2 * i) as usize;
-        to = unitig(
-            i,
-            at_or(table, 2 * i + 1),
-            fields::part(files, start, end),
-            piece,
-            to,
-            out,
-        )?;
-        i += 1;
+    out.named(b"ok ", u64::from(shared.unitigs))?;
+    out.text(b"\n")?;
+    let files = front(&memory.runs, shared.runs.used);
+    let entries = memory.table.chunks(2).take(shared.unitigs as usize);
+    for (place, entry) in entries.enumerate() {
+        if let [start, n] = entry {
+            let bytes = part(files, *start as usize, files.len());
+            unitig(place, *n, bytes, piece, out)?;
+        }
     }
-    Ok(to)
-}
-
-// Behind the sets: the open unitig, and what is closed.
-fn unitig_sizes(
-    now: Current,
-    unitigs: u32,
-    runs: usize,
-    at: usize,
-    out: &mut Output,
-) -> io::Result<usize> {
-    let a = current(now, at, out)?;
-    let b = say::named(b" unitigs ", unitigs as u64, a, out)?;
-    let c = say::named(b" runs ", runs as u64, b, out)?;
-    say::newline(c, out)
-}
-
-fn current(now: Current, at: usize, out: &mut Output) -> io::Result<usize> {
-    match now {
-        Current::Nothing => say::text(b" open none", at, out),
-        Current::Open(n) => say::named(b" open ", n as u64, at, out),
-    }
-}
-
-fn set_sizes(
-    colors: u32,
-    worker: u32,
-    number: u32,
-    sets: u32,
-    records: usize,
-    at: usize,
-    out: &mut Output,
-) -> io::Result<usize> {
-    let a = say::named(b"ok N ", colors as u64, at, out)?;
-    let b = say::named(b" W ", worker as u64, a, out)?;
-    let c = say::named(b" last ", number as u64, b, out)?;
-    let d = say::named(b" sets ", sets as u64, c, out)?;
-    say::named(b" records ", records as u64, d, out)
+    Ok(())
 }
 
 // One line: what the store was started with, and how much it holds.
-pub(crate) fn state(store: Store, at: usize, out: &mut Output) -> io::Result<usize> {
+pub(crate) fn state(store: Store, out: &mut Output) -> io::Result<()> {
     let cell = store.cell;
     let shared = store.shared;
-    let now = cell.current;
-    let a = set_sizes(
-        store.colors,
-        cell.worker,
-        cell.number,
-        cell.sets,
-        cell.records.used,
-        at,
-        out,
-    )?;
-    unitig_sizes(now, shared.unitigs, shared.runs.used, a, out)
+    out.named(b"ok N ", u64::from(store.colors))?;
+    out.named(b" W ", u64::from(cell.worker))?;
+    out.named(b" last ", u64::from(cell.number))?;
+    out.named(b" sets ", u64::from(cell.sets))?;
+    out.named(b" records ", cell.records.used as u64)?;
+    match cell.current {
+        Current::Nothing => out.text(b" open none")?,
+        Current::Open(n) => out.named(b" open ", u64::from(n))?,
+    }
+    out.named(b" unitigs ", u64::from(shared.unitigs))?;
+    out.named(b" runs ", shared.runs.used as u64)?;
+    out.text(b"\n")
 }

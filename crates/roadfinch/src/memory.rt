@@ -1,0 +1,167 @@
+// The store, the memory that it works in, and its calls over as much of it as start said.
+use crate::replies::Trouble;
+use base::Refusal;
+use shell::fields::front;
+use shell::reasons::Fault;
+use store::state::{Store, Told, Way};
+
+// The buffers have fixed lengths and lie on the stack, since the program allocates nothing: `help` tells the limits.
+#[derive(Drop)]
+pub struct Memory {
+    // no store before an accepted start
+    pub store: Option<Store>,
+    pub records: [u8; 1048576],
+    pub index: [u64; 65536],
+    pub opened: [u64; 32768],
+    pub held: [u64; 32768],
+    pub runs: [u8; 1048576],
+    // two numbers for each of 16,384 unitigs
+    pub table: [u64; 32768],
+}
+
+// How many elements of each buffer are to be used.
+#[derive(Clone, Copy)]
+pub struct Lengths {
+    pub records: usize,
+    pub index: usize,
+    pub opened: usize,
+    pub held: usize,
+    pub runs: usize,
+    pub table: usize,
+}
+
+// The first `count` elements, or as many as there are.
+fn front_mut<T>(xs: &mut [T], count: usize) -> &mut [T] {
+    let end = count.min(xs.len());
+    &mut xs[..end]
+}
+
+impl Memory {
+    pub(crate) fn started(&self) -> Result<Store, Fault> {
+        self.store.ok_or(Fault::Unstarted)
+    }
+
+    // Whether a length is above its buffer's.
+    fn lacks(&self, lengths: Lengths) -> bool {
+        self.records.len() < lengths.records
+            || self.index.len() < lengths.index
+            || self.opened.len() < lengths.opened
+            || self.held.len() < lengths.held
+            || self.runs.len() < lengths.runs
+            || self.table.len() < lengths.table
+    }
+
+    // A refused start leaves the store that there is.
+    pub(crate) fn start(
+        &mut self,
+        colors: u32,
+        worker: u32,
+        lengths: Lengths,
+    ) -> Result<(), Trouble> {
+        if self.lacks(lengths) {
+            return Err(Trouble::Wrong(Fault::Length));
+        }
+        let begun = Store::start(
+            colors,
+            worker,
+            front(&self.records, lengths.records),
+            front_mut(&mut self.index, lengths.index),
+            front(&self.opened, lengths.opened),
+            front(&self.held, lengths.held),
+            front(&self.runs, lengths.runs),
+            front(&self.table, lengths.table),
+        );
+        begun.answer?;
+        self.store = Some(begun.state);
+        Ok(())
+    }
+
+    // The state that a call hands back is kept, refused or not.
+    fn told(&mut self, told: Told<Store, u64>) -> Result<u64, Refusal> {
+        self.store = Some(told.state);
+        told.answer
+    }
+
+    pub(crate) fn add(&mut self, number: u32, ids: &[u32]) -> Result<u64, Trouble> {
+        let store = self.started()?;
+        let cell = store.cell;
+        let shared = store.shared;
+        let told = store.add(
+            number,
+            ids,
+            front_mut(&mut self.records, cell.records.length),
+            front_mut(&mut self.index, cell.index),
+            front(&self.opened, cell.opened.length),
+            front(&self.held, cell.held.length),
+            front(&self.runs, shared.runs.length),
+            front(&self.table, shared.table),
+        );
+        Ok(self.told(told)?)
+    }
+
+    pub(crate) fn join(
+        &mut self,
+        number: u32,
+        n: u32,
+        reversed: bool,
+        piece: &[u64],
+    ) -> Result<u64, Trouble> {
+        let store = self.started()?;
+        let cell = store.cell;
+        let shared = store.shared;
+        let told = store.join(
+            number,
+            n,
+            reversed,
+            piece,
+            front(&self.records, cell.records.length),
+            front(&self.index, cell.index),
+            front_mut(&mut self.opened, cell.opened.length),
+            front_mut(&mut self.held, cell.held.length),
+            front(&self.runs, shared.runs.length),
+            front(&self.table, shared.table),
+        );
+        Ok(self.told(told)?)
+    }
+
+    pub(crate) fn close(&mut self, number: u32, way: Way) -> Result<u64, Trouble> {
+        let store = self.started()?;
+        let cell = store.cell;
+        let shared = store.shared;
+        let told = store.close(
+            number,
+            way,
+            front(&self.records, cell.records.length),
+            front(&self.index, cell.index),
+            front(&self.opened, cell.opened.length),
+            front(&self.held, cell.held.length),
+            front_mut(&mut self.runs, shared.runs.length),
+            front_mut(&mut self.table, shared.table),
+        );
+        Ok(self.told(told)?)
+    }
+
+    // Answers how many ids were given.
+    pub(crate) fn show(
+        &mut self,
+        unitig: u32,
+        vertex: u32,
+        ids: &mut [u32],
+    ) -> Result<u64, Trouble> {
+        let store = self.started()?;
+        let cell = store.cell;
+        let shared = store.shared;
+        let told = store.show(
+            unitig,
+            vertex,
+            ids,
+            front(&self.records, cell.records.length),
+            front(&self.index, cell.index),
+            front(&self.opened, cell.opened.length),
+            front(&self.held, cell.held.length),
+            front(&self.runs, shared.runs.length),
+            front(&self.table, shared.table),
+        );
+        Ok(self.told(told)?)
+    }
+}
