@@ -96,6 +96,10 @@ module _ (n k : ℕ) (ws : List ℕ) (t : Taken n ws) where
   pub taken_movable : k + n < 16777216 → Movable k ws
   taken_movable h i l = omega (arith, offset_le n ws i l t.list.up)
 
+  -- no run begins behind the vertices, moved or not
+  pub below_top : (j top : ℕ) → j < length ws → top ≡ n + k → offset (get_or ws j 0) ≤ top
+  below_top j top l e = omega (arith, offset_le n ws j l t.list.up)
+
   backward_at : (i top x : ℕ) → i + 1 < length ws → top ≡ n + k → x ≡ pack (top - offset (get_or ws (length ws - 1 - i) 0)) (coordinate (get_or ws (length ws - 2 - i) 0))
       → x ≡ get_or (shifted k (drop 1 (reverse_runs n ws))) i 0
   backward_at i top x h e q =

@@ -80,16 +80,14 @@ module _ (n : ℕ) (ws xs : List ℕ) (tail i : ℕ) (s : Swapped n ws xs tail i
               let f : length ws - 1 - i ≡ suc (length ws - 1 - (i + 1)) = omega arith in
               e ∙ ap offset (s.mid (length ws - 1 - i) (omega arith) (omega arith)) ∙ ap (λ (z : ℕ). offset (get_or ws z 0)) f ∙ sym (run_begins n ws (suc (length ws - 1 - (i + 1))) (omega arith))
 
--- the same, where m is the number of runs
-pub swap_step : (n : ℕ) (ws xs : List ℕ) (tail i m : ℕ) → length ws ≡ m → Swapped n ws xs tail i → (x y t : ℕ) → i + i + 1 < m
-    → x ≡ pack (n - tail) (coordinate (get_or xs (m - 1 - i) 0)) → y ≡ pack (n - offset (get_or xs (i + 1) 0)) (coordinate (get_or xs i 0)) → t ≡ offset (get_or xs (m - 1 - i) 0)
-    → Swapped n ws (set (set xs i x) (m - 1 - i) y) t (i + 1)
-swap_step n ws xs tail i m e s x y t =
-    subst
-    (λ (m : ℕ). i + i + 1 < m → x ≡ pack (n - tail) (coordinate (get_or xs (m - 1 - i) 0)) → y ≡ pack (n - offset (get_or xs (i + 1) 0)) (coordinate (get_or xs i 0))
-    → t ≡ offset (get_or xs (m - 1 - i) 0) → Swapped n ws (set (set xs i x) (m - 1 - i) y) t (i + 1))
-    e
-    (λ two a b c. swap_more n ws xs tail i s x a (omega arith) y b two t c)
+pub swap_step : (n : ℕ) (ws xs : List ℕ) (tail i : ℕ) → Swapped n ws xs tail i → (x y t : ℕ) → i + i + 1 < length ws
+    → x ≡ pack (n - tail) (coordinate (get_or xs (length ws - 1 - i) 0)) → y ≡ pack (n - offset (get_or xs (i + 1) 0)) (coordinate (get_or xs i 0)) → t ≡ offset (get_or xs (length ws - 1 - i) 0)
+    → Swapped n ws (set (set xs i x) (length ws - 1 - i) y) t (i + 1)
+swap_step n ws xs tail i s x y t two a b c = swap_more n ws xs tail i s x a (omega arith) y b two t c
+
+-- no run between begins behind the vertices
+pub between_le : (n : ℕ) (ws xs : List ℕ) (tail i j top : ℕ) → Taken n ws → Swapped n ws xs tail i → i ≤ j → j < length ws - i → top ≡ n → offset (get_or xs j 0) ≤ top
+between_le n ws xs tail i j top t s h g e = omega (arith, offset_le n ws j (omega arith) t.list.up, ap offset (s.mid j h g))
 
 -- ---- four runs of each end
 

@@ -1,21 +1,16 @@
-use Prim.Native.Nat.{◌-◌}
 use mathlib.Core.Path.{refl}
 use native.Mathlib.Omega.{arith}
-use lib.ListN.{length}
 use Rattle.runs.specs.Reverse.{reverse_runs}
-use Rattle.runs.proofs.Laws.Orders.{offset_le}
 use Rattle.runs.proofs.Laws.Lists.{fill_none}
 use Rattle.runs.proofs.Laws.Reverse.{length_reversed}
-use Rattle.runs.proofs.Laws.Fill.{backward_more, rest_end}
+use Rattle.runs.proofs.Laws.Fill.{below_top, backward_more, rest_end}
 use Rattle.runs.proofs.oriented.fill_backward.Goals as goal
 
 pub loop-i-init : goal.loop-i-init
 loop-i-init c = (refl, c.from-top.ensures, omega arith, fill_none _ _)
 
 pub backed-requires : goal.backed-requires
-backed-requires c =
-    let ws = c.args.runs.now in
-    (omega (arith, offset_le c.args.n ws (length ws - 1 - c.loop-i.i) (omega arith) c.requires.0.list.up), omega arith)
+backed-requires c = (below_top c.args.n c.args.shift c.args.runs.now c.requires.0 _ _ (omega arith) c.from-top.ensures, omega (arith, c.from-top.ensures))
 
 pub bounds-out-i : goal.bounds-out-i
 bounds-out-i c = omega (arith, c.loop-i.invariant.3.long)

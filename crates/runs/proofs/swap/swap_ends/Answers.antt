@@ -1,8 +1,8 @@
 -- `runs::swap::swap_ends` meets its contract.
 use Rattle.std.proofs.Common.{ℕ, ◌≡◌, ◌+◌, ◌-◌, ◌/◌, length, get_or, refl, ap, ap₂, ◌∙◌, arith}
 use Rattle.runs.specs.Words.{offset, coordinate, pack}
-use Rattle.runs.proofs.Laws.Orders.{end_le, offset_le}
-use Rattle.runs.proofs.Laws.Swap.{swap_end, swap_mid, swap_step}
+use Rattle.runs.proofs.Laws.Orders.{end_le}
+use Rattle.runs.proofs.Laws.Swap.{between_le, swap_end, swap_mid, swap_step}
 use Rattle.runs.proofs.swap.swap_ends.Goals as goal
 
 pub backed-requires : goal.backed-requires
@@ -11,11 +11,7 @@ backed-requires c =
     rw c.from-top.ensures (omega (arith, c.loop-i.invariant.tails, end_le c.args.n ws (length ws - 1 - c.loop-i.i) c.requires.list.up), c.requires.small)
 
 pub backed-requires-in-loop-i : goal.backed-requires-in-loop-i
-backed-requires-in-loop-i c =
-    let ws = c.args.runs.now in
-    let i = c.loop-i.i in
-    let same : get_or c.loop-i.runs (i + 1) 0 ≡ get_or ws (i + 1) 0 = c.loop-i.invariant.mid (i + 1) (omega arith) (omega arith) in
-    rw (c.from-top.ensures, same) (offset_le c.args.n ws (i + 1) (omega arith) c.requires.list.up, c.requires.small)
+backed-requires-in-loop-i c = (between_le c.args.n c.args.runs.now c.loop-i.runs _ c.loop-i.i _ _ c.requires c.loop-i.invariant (omega arith) (omega arith) c.from-top.ensures, omega (arith, c.from-top.ensures, c.requires.small))
 
 pub loop-i-preserved : goal.loop-i-preserved
 loop-i-preserved c =
@@ -23,7 +19,7 @@ loop-i-preserved c =
     let i = c.loop-i.i in
     let first = c.backed.ensures ∙ ap (λ (t : ℕ). pack (t - offset c.loop-i.behind) (coordinate (get_or c.loop-i.runs (length ws - 1 - i) 0))) c.from-top.ensures in
     let last = c.backed-in-loop-i.ensures ∙ ap (λ (t : ℕ). pack (t - offset (get_or c.loop-i.runs (i + 1) 0)) (coordinate (get_or c.loop-i.runs i 0))) c.from-top.ensures in
-    swap_step c.args.n ws c.loop-i.runs _ i (length ws) refl c.loop-i.invariant _ _ _ (omega arith) first last refl
+    swap_step c.args.n ws c.loop-i.runs _ i c.loop-i.invariant _ _ _ (omega arith) first last refl
 
 pub backed-requires-then-middle-m : goal.backed-requires-then-middle-m
 backed-requires-then-middle-m c =
