@@ -1,4 +1,5 @@
-// A piece behind an output: the piece's first vertex is the output's last.
+// A piece behind an output: the piece's first vertex is the output's last. The output is a lent buffer and how many runs it has, as the C
+// interface hands it over: the libraries have no heap.
 ghost use Rattle.std.specs.Prelude.{◌≡◌, ◌+◌, ◌-◌, ◌<◌, ◌≤◌, length, take, drop};
 ghost use Rattle.std.proofs.Math.Seq.{paste};
 ghost use Rattle.runs.specs.Colours.{last_coord};

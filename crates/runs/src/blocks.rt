@@ -26,7 +26,7 @@ impl<'a> Blocks<'a> {
         ensures { IsRead bytes.now result }
     {
         let Prefix { value, len } = codec::prefix::read_varint_len(bytes)?;
-        let count = value as usize;
+        let count = value as usize; // `as`, since no `From` leads from u32 to usize
         if bytes.len() - len < 8 * count {
             return Err(Refusal::Cut);
         }

@@ -20,7 +20,7 @@ fn put_word(out: &mut [u8], at: usize, w: u64)
     out[at..at + 8].copy_from_slice(&w.to_le_bytes());
 }
 
-// How many bytes `count` runs take.
+// How many bytes `count` runs take. `as`, since no `From` leads from u32 to usize.
 fn bytes_for(count: u32) -> usize
     ensures { (result ≡ length (prefix_of count) + 8 * count) × (length (prefix_of count) ≤ 5) }
 {
@@ -73,7 +73,7 @@ pub fn write_rotated_runs(
 {
     orders::check_steady(runs, n)?;
     let cycle = rotate::turned(Oriented { runs, n, reversed }, pivot);
-    let count = rotate::count(cycle) as u32;
+    let count = rotate::count(cycle) as u32; // below 2 ^ 24, which is proved
     write(count, cycle, out)
 }
 

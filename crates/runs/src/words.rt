@@ -2,7 +2,7 @@
 ghost use Rattle.std.specs.Prelude.{◌≡◌, ◌-◌, ◌<◌, ◌≤◌};
 ghost use Rattle.runs.specs.Words.{offset, coordinate, pack, worker_of, place_of, coordinate_of};
 
-// The first vertex of a run.
+// The first vertex of a run. `as` here and below loses nothing, which is proved; `try_from` would add a case that can't come.
 pub fn offset(w: u64) -> u32
     ensures { result ≡ offset w }
 {
