@@ -22,23 +22,10 @@ loop-base-init c =
     let z : a.at ≡ a.at + 0 = omega arith in
     ([], mapping_start a.set.n a.set.ids.now a.set.within, ap (λ (k : ℕ). drop k (bits_of a.bytes.now)) z)
 
-pub map_chunk-c-requires : goal.map_chunk-c-requires
-map_chunk-c-requires c =
-    (c.loop-base.invariant.1.ahead, c.chunk_width-width.ensures.1, c.chunk_width-width.ensures.2)
-
-pub bits_at-requires : goal.bits_at-requires
-bits_at-requires c = record { b_bound = (omega (arith, c.chunk_width-width.ensures.2), c.chunk_width-width.ensures.1); bytes_len_bound = c.requires.0 }
-
 pub returns-then-bits_at-c : goal.returns-then-bits_at-c
 returns-then-bits_at-c c =
     let a = c.args in
     λ rest e. c.if-bits_at-c.true (c.bits_at.ensures.0 ∙ mapping_read a.set.n a.set.ids.now c.loop-base.i c.loop-base.base c.loop-base.invariant.0 c.loop-base.invariant.1 c.chunk_width-width.result c.map_chunk-c.result c.map_chunk-c.ensures _ _ rest c.loop-base.invariant.2 e)
-
-pub overflow_add-base : goal.overflow_add-base
-overflow_add-base c = omega (arith, c.chunk_width-width.ensures.2)
-
-pub loop-base-smaller : goal.loop-base-smaller
-loop-base-smaller c = omega (arith, c.chunk_width-width.ensures.2, c.chunk_width-width.ensures.3)
 
 pub loop-base-preserved : goal.loop-base-preserved
 loop-base-preserved c =

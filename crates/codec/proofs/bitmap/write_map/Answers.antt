@@ -12,19 +12,9 @@ loop-base-init c =
     let a = c.args in
     ([], mapping_start a.set.n a.set.ids.now a.set.within, wrote_none a.w.now a.set.n c.requires, refl)
 
-pub map_chunk-c-requires : goal.map_chunk-c-requires
-map_chunk-c-requires c =
-    (c.loop-base.invariant.1.ahead, c.chunk_width-width.ensures.1, c.chunk_width-width.ensures.2)
-
 pub push-requires : goal.push-requires
 push-requires c =
     let a = c.args in record { ready = ready_after a.w.now c.loop-base.w c.loop-base.invariant.0 c.loop-base.invariant.2 a.set.n c.chunk_width-width.result c.requires (omega (arith, mapping_count a.set.n a.set.ids.now c.loop-base.i c.loop-base.base c.loop-base.invariant.0 c.loop-base.invariant.1, c.chunk_width-width.ensures.2)); value_bound = (c.map_chunk-c.ensures.small, c.chunk_width-width.ensures.1) }
-
-pub overflow_add-base : goal.overflow_add-base
-overflow_add-base c = omega (arith, c.chunk_width-width.ensures.2, c.chunk_width-width.ensures.3)
-
-pub loop-base-smaller : goal.loop-base-smaller
-loop-base-smaller c = omega (arith, c.chunk_width-width.ensures.2, c.chunk_width-width.ensures.3)
 
 pub loop-base-preserved : goal.loop-base-preserved
 loop-base-preserved c =

@@ -11,9 +11,6 @@ use Rattle.codec.proofs.gaps.gaps_len.Goals as goal
 pub loop-id-init : goal.loop-id-init
 loop-id-init g c = let s = c.args.set in ([], coding_start g.C.CodedIds.dense s.n s.ids.now s.within, refl, omega arith)
 
-pub next_id-requires : goal.next_id-requires
-next_id-requires g c = c.loop-id.invariant.1.ahead
-
 pub loop-id-preserved : goal.loop-id-preserved
 loop-id-preserved g c =
     let s = c.args.set in

@@ -19,16 +19,10 @@ loop-id-init g c =
     let a = c.args in
     ([], coding_start g.C.CodedIds.dense a.set.n a.set.ids.now a.set.within, refl, c.requires.1)
 
-pub next_id-requires : goal.next_id-requires
-next_id-requires g c = c.loop-id.invariant.1.ahead
-
 pub returns : goal.returns
 returns g c =
     let a = c.args in
     (c.loop-id.invariant.2 ∙ ap (λ (x : List Bool). x ++ drop c.loop-id.place (bits_of a.bytes.now)) (sym (coding_end g.C.CodedIds.dense a.set.n a.set.ids.now c.loop-id.c c.loop-id.invariant.0 c.loop-id.invariant.1 c.in_default.ensures)), c.loop-id.invariant.3)
-
-pub next_delta-requires : goal.next_delta-requires
-next_delta-requires g c = record { bytes_len_bound = search rules; window = c.last_word-last.ensures }
 
 pub returns-in_err-value : goal.returns-in_err-value
 returns-in_err-value g c = rw c.from_residual.ensures (λ rest e.
@@ -36,20 +30,12 @@ returns-in_err-value g c = rw c.from_residual.ensures (λ rest e.
     let m = coding_read g.C.CodedIds.dense a.set.n a.set.ids.now c.loop-id.c c.loop-id.invariant.0 c.loop-id.invariant.1 c.in-Some.field-0.id c.in-Some.field-0.next c.in-Some.ensures _ _ rest c.loop-id.invariant.2 e in
     omega (arith, c.in_err-value.ensures _ _ m.1, c.in-Some.ensures.2))
 
-pub overflow_sub-id : goal.overflow_sub-id
-overflow_sub-id g c =
-    omega (arith, c.in-Some.ensures.1)
-
 pub returns-then-value-id : goal.returns-then-value-id
 returns-then-value-id g c = λ rest e.
     let a = c.args in
     let m = coding_read g.C.CodedIds.dense a.set.n a.set.ids.now c.loop-id.c c.loop-id.invariant.0 c.loop-id.invariant.1 c.in-Some.field-0.id c.in-Some.field-0.next c.in-Some.ensures _ _ rest c.loop-id.invariant.2 e in
     let same : c.in_ok-value.field-0.value ≡ c.in-Some.field-0.id - c.loop-id.c.from = got_value (sym c.in_ok-value.ensures.0 ∙ m.1) in
     absurd (omega arith)
-
-pub loop-id-smaller : goal.loop-id-smaller
-loop-id-smaller g c =
-    omega (arith, c.in-Some.ensures.1, c.in-Some.ensures.2, c.in-Some.ensures.3)
 
 pub loop-id-preserved : goal.loop-id-preserved
 loop-id-preserved g c =

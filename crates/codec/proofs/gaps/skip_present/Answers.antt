@@ -5,12 +5,6 @@ use Rattle.codec.proofs.gaps.skip_present.Goals as goal
 pub loop-k-init : goal.loop-k-init
 loop-k-init c = let a = c.args in skipped_none a.set.n a.set.ids.now a.c.i a.c.from c.requires
 
-pub count_up-requires : goal.count_up-requires
-count_up-requires c = (omega (arith, c.loop-k.invariant.inside), omega (arith, c.loop-k.invariant.below, c.args.set.few))
-
-pub overflow_add-result : goal.overflow_add-result
-overflow_add-result c = omega (arith, c.count_up.ensures.1, c.loop-k.invariant.inside)
-
 pub returns-then-set-c : goal.returns-then-set-c
 returns-then-set-c c =
     let a = c.args in

@@ -13,9 +13,6 @@ use Rattle.codec.proofs.gaps.write_gaps.Goals as goal
 pub loop-id-init : goal.loop-id-init
 loop-id-init g c = let s = c.args.set in ([], coding_start g.C.CodedIds.dense s.n s.ids.now s.within, wrote_none c.args.w.now _ c.requires, refl)
 
-pub next_id-requires : goal.next_id-requires
-next_id-requires g c = c.loop-id.invariant.1.ahead
-
 pub write_delta-requires : goal.write_delta-requires
 write_delta-requires g c =
     let a = c.args in

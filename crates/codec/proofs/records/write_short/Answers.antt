@@ -15,8 +15,8 @@ encode_source_set-len-requires c =
 
 pub overflow_cast-out : goal.overflow_cast-out
 overflow_cast-out c =
-    let short : c.encode_source_set-len.result < 128 = omega (arith, c.encode_source_set-len.ensures.0, payload_short c.args.set.n c.args.set.ids.now c.requires.0 c.args.set.within) in
-    omega (arith, short)
+    let a = c.args in
+    omega (arith, c.encode_source_set-len.ensures.0, payload_short a.set.n a.set.ids.now c.requires.0 a.set.within)
 
 pub bounds-out-0 : goal.bounds-out-0
 bounds-out-0 c =
@@ -24,8 +24,8 @@ bounds-out-0 c =
 
 pub overflow_add-result : goal.overflow_add-result
 overflow_add-result c =
-    let short : c.encode_source_set-len.result < 128 = omega (arith, c.encode_source_set-len.ensures.0, payload_short c.args.set.n c.args.set.ids.now c.requires.0 c.args.set.within) in
-    omega (arith, short)
+    let a = c.args in
+    omega (arith, c.encode_source_set-len.ensures.0, payload_short a.set.n a.set.ids.now c.requires.0 a.set.within)
 
 pub returns : goal.returns
 returns c =

@@ -31,19 +31,12 @@ returns-then-value-set c =
     let a = c.args in
     sym (gives_other (decode_set a.set.n a.payload.now) a.set.ids.now (λ e. c.if-value-set.true (same_value c.in-Some.ensures.0 (set_begins a.set.n a.set.ids.now a.payload.now e).1)))
 
-pub same_body-requires : goal.same_body-requires
-same_body-requires c =
-    (c.requires, c.in-Some.ensures.1)
-
 pub returns-in_default-same_body : goal.returns-in_default-same_body
 returns-in_default-same_body c =
     let a = c.args in
     sym (gives_other (decode_set a.set.n a.payload.now) a.set.ids.now (λ e.
     let s = set_begins a.set.n a.set.ids.now a.payload.now e in
     c.in_default-same_body.ensures s.0 (same_rest c.in-Some.ensures.0 s.1)))
-
-pub is_padding-requires : goal.is_padding-requires
-is_padding-requires c = (c.requires, c.in-Some-same_body.ensures.1)
 
 pub returns : goal.returns
 returns c =
