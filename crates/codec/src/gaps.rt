@@ -75,14 +75,14 @@ fn skip_present(set: ColorSet, c: Cursor) -> usize
     requires { Ahead set.n set.ids.now c }
     ensures { Skipped set.entry.n set.entry.ids.now c.i c.from result × Within (c.from + result + 1) set.entry.n (drop (c.i + result) set.entry.ids.now) }
 {
-    let mut k: usize = 0;
-    while k + 8 <= set.ids.len() - c.i {
+    let left = set.ids.len() - c.i;
+    for eight in 0..left / 8 {
+        let k = 8 * eight;
         if set.ids[c.i + k + 7] as usize != c.from as usize + k + 7 {
             return k + count_up(set.ids, c.i + k, c.from + k as u32);
         }
-        k += 8;
     }
-    skip_last(set, c, k)
+    skip_last(set, c, left / 8 * 8)
 }
 
 impl CodedIds for Present {
