@@ -1,4 +1,4 @@
--- `gaps::skip_present` meets its contract. The loop's invariant: `k` ids go up by one.
+-- `gaps::skip_present` meets its contract. The loop's invariant: eight ids for each turn go up by one.
 use Prim.Native.Nat.{◌*◌}
 use Rattle.codec.specs.Inside.Gaps.{Skipped}
 use Rattle.codec.proofs.gaps.skip_present.Given as goal
