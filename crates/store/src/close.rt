@@ -44,8 +44,7 @@ impl Cell {
         let Current::Open(n) = self.current else {
             return Err(Refusal::Unopened);
         };
-        let end = self.opened.used;
-        if !runs::orders::is_sharp(&opened[..end], n) {
+        if !runs::orders::is_sharp(self.opened.part(opened), n) {
             return Err(Refusal::Damaged);
         }
         let unitigs = shared.unitigs as usize;
@@ -89,16 +88,11 @@ impl Cell {
         requires { (sharp n (take self.opened.used opened.now) ≡ true) × (n ≤ 16777215) × (self.opened.used ≤ length opened.now) × (self.opened.used ≤ 4294967295) × (at ≤ length runs.old) }
         ensures { (of_written result, runs.new) ≡ bytes_into (run_bytes (filed_runs way n (take self.opened.used opened.now))) at runs.old }
     {
-        let end = self.opened.used;
+        let open = self.opened.part(opened);
+        let out = &mut runs[at..];
         match way {
-            Way::Line => runs::bytes::write_unitig_color_runs(&opened[..end], &mut runs[at..]),
-            Way::Cycle { pivot } => runs::bytes::write_rotated_runs(
-                &opened[..end],
-                n,
-                pivot,
-                false,
-                &mut runs[at..],
-            ),
+            Way::Line => runs::bytes::write_unitig_color_runs(open, out),
+            Way::Cycle { pivot } => runs::bytes::write_rotated_runs(open, n, pivot, false, out),
         }
     }
 

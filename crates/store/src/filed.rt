@@ -40,8 +40,8 @@ impl Cell {
         requires { (at ≤ self.records.used) × (self.records.used ≤ length records.now) × (bad_colors colors ≡ false) }
         ensures { result ≡ reads_as (set_from colors self records.now (some at)) ids.now }
     {
-        let end = self.records.used;
-        codec::records::is_color_record(colors, ids, &records[at..end])
+        let filed = self.records.part(records);
+        codec::records::is_color_record(colors, ids, &filed[at..])
     }
 
     // Whether the record that a coordinate names reads to exactly these ids.

@@ -28,8 +28,7 @@ impl Cell {
         requires { self.held.used ≤ length held.now }
         ensures { result ≡ same_join self.held.used held.now self.last n reversed piece.now }
     {
-        let end = self.held.used;
-        self.last == Last::Join { n, reversed } && &held[..end] == piece
+        self.last == Last::Join { n, reversed } && self.held.part(held) == piece
     }
 
     // The vertex count with a piece of n more.
@@ -81,11 +80,11 @@ impl Cell {
         requires { (self.current ≡ Current.Open m) × (self.opened.used ≤ length opened.now) × (self.opened.used ≤ self.opened.length) × (0 < length piece.now) }
         ensures { result ≡ open_test self.current (take self.opened.used opened.now) (oriented reversed n piece.now) (open_space self (length (open_new self.current (take self.opened.used opened.now) (oriented reversed n piece.now))) (length piece.now)) }
     {
-        let end = self.opened.used;
-        if !runs::orders::is_sharp(&opened[..end], m) {
+        let open = self.opened.part(opened);
+        if !runs::orders::is_sharp(open, m) {
             return Err(Refusal::Damaged);
         }
-        if runs::orders::last_coordinate(&opened[..end])
+        if runs::orders::last_coordinate(open)
             != runs::reverse::first_coordinate(piece, n, reversed)
         {
             return Err(Refusal::Junction);

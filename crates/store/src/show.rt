@@ -38,11 +38,11 @@ impl Shared {
         requires { self.runs.used ≤ length runs.now }
         ensures { option_of result ≡ coord_from self runs.now at n vertex }
     {
-        let end = self.runs.used;
-        if 16777215 < n || end < at {
+        if 16777215 < n || self.runs.used < at {
             return None;
         }
-        runs::bytes::sharp_color_at(&runs[at..end], n as u32, vertex).ok()
+        let filed = self.runs.part(runs);
+        runs::bytes::sharp_color_at(&filed[at..], n as u32, vertex).ok()
     }
 
     // Whether there is no such closed unitig, or no such vertex of it.
@@ -72,8 +72,8 @@ impl Cell {
         requires { (at ≤ self.records.used) × (self.records.used ≤ length records.now) × (bad_colors colors ≡ false) }
         ensures { (of_answer result, out.new) ≡ shown_by (set_from colors self records.now (some at)) out.old }
     {
-        let end = self.records.used;
-        read_answer(codec::records::read_color_record(colors, &records[at..end], out))
+        let filed = self.records.part(records);
+        read_answer(codec::records::read_color_record(colors, &filed[at..], out))
     }
 }
 

@@ -1,5 +1,5 @@
 // The state of a store, and what its calls answer.
-ghost use Rattle.std.specs.Prelude.{◌≡◌};
+ghost use Rattle.std.specs.Prelude.{◌≡◌, ◌≤◌, length, take};
 ghost use Rattle.store.specs.State.{extent};
 
 use base::Refusal;
@@ -84,5 +84,13 @@ impl Extent {
         ensures { result ≡ extent length 0 }
     {
         Extent { length, used: 0 }
+    }
+
+    // The part of the buffer that is used.
+    pub(crate) fn part<T>(self, buffer: &[T]) -> &[T]
+        requires { self.used ≤ length buffer.now }
+        ensures { result.now ≡ take self.used buffer.now }
+    {
+        &buffer[..self.used]
     }
 }

@@ -26,7 +26,7 @@ use Rattle.store.specs.Numbered.{numbered}
 use Rattle.store.specs.State.{after, put}
 use Rattle.store.specs.declared.state.Cell.{Cell}
 use Rattle.store.specs.declared.state.Last.TheVariants as last
-use Rattle.store.proofs.Laws.Parts.{part_is}
+use Rattle.store.proofs.Laws.Parts.{rest_is}
 use Rattle.store.proofs.Laws.Tested.{told_written, is_ok_at, refuse_go, said_go}
 
 -- ---- the record that a coordinate names
@@ -52,11 +52,11 @@ gives_reads (records.found js rest) ids = refl
 gives_reads records.short ids = refl
 gives_reads records.damaged ids = refl
 
-pub part_reads : (r : Bool) (N : ℕ) (c : Cell) (file ids : List ℕ) (at : ℕ) → at ≤ c.records.used → bad_colors N ≡ false
-    → r ≡ is_record N ids (take (c.records.used - at) (drop at file)) → r ≡ reads_as (set_from N c file (some at)) ids
+pub part_reads : (r : Bool) (N : ℕ) (c : Cell) (file part ids : List ℕ) (at : ℕ) → part ≡ take c.records.used file → bad_colors N ≡ false
+    → r ≡ is_record N ids (take (length part - at) (drop at part)) → r ≡ reads_as (set_from N c file (some at)) ids
 unfolding is_record set_from ◌when◌else◌
-part_reads r N c file ids at h b e =
-    e ∙ rw (b, part_is at c.records.used file h) (gives_reads _ ids)
+part_reads r N c file part ids at h b e =
+    e ∙ rw (b, rest_is at c.records.used file part h) (gives_reads _ ids)
 
 -- ---- what is known where add may go
 

@@ -104,24 +104,24 @@ module _ (file : List ℕ) (at : ℕ) (inside : at ≤ length file) where
       (into_by (ltb (length file) (at + length (run_bytes ws))) a (run_bytes ws) file part at
       (e ∙ rw (tail_is at file, space_same at (length (run_bytes ws)) file inside) (when_no _ _ _ (le-ltb _ _ few))))
 
-  pub line_filed : (way : Way) (a : Answer) (part old : List ℕ) (n used : ℕ) → way ≡ Line → used ≤ length old → used ≤ 4294967295
-      → ◌≡◌ {A = Answer × List ℕ} (a, part) (write_runs (take used old) (mid_of at (length file - at) file))
+  pub line_filed : (way : Way) (a : Answer) (part old ws : List ℕ) (n used : ℕ) → way ≡ Line → ws ≡ take used old → used ≤ length old → used ≤ 4294967295
+      → ◌≡◌ {A = Answer × List ℕ} (a, part) (write_runs ws (mid_of at (length file - at) file))
       → ◌≡◌ {A = Answer × List ℕ} (a, put_mid at (length file - at) file part) (bytes_into (run_bytes (filed_runs way n (take used old))) at file)
   unfolding filed_runs
-  line_filed way a part old n used q h few e =
+  line_filed way a part old ws n used q d h few e =
       let l : length (take used old) ≡ used = length-take-le used old h in
       let k : length (take used old) ≤ 4294967295 = omega arith in
-      rw q (runs_into a part (take used old) k e)
+      rw q (runs_into a part (take used old) k (rw d at e))
 
-  pub cycle_filed : (way : Way) (pivot : ℕ) (a : Answer) (part old : List ℕ) (n used : ℕ) → way ≡ Cycle pivot → n ≤ 16777215 → sharp n (take used old) ≡ true
-      → ◌≡◌ {A = Answer × List ℕ} (a, part) (write_rotated (take used old) n pivot false (mid_of at (length file - at) file))
+  pub cycle_filed : (way : Way) (pivot : ℕ) (a : Answer) (part old ws : List ℕ) (n used : ℕ) → way ≡ Cycle pivot → ws ≡ take used old → n ≤ 16777215 → sharp n (take used old) ≡ true
+      → ◌≡◌ {A = Answer × List ℕ} (a, part) (write_rotated ws n pivot false (mid_of at (length file - at) file))
       → ◌≡◌ {A = Answer × List ℕ} (a, put_mid at (length file - at) file part) (bytes_into (run_bytes (filed_runs way n (take used old))) at file)
   unfolding filed_runs
-  cycle_filed way pivot a part old n used q small sh e =
+  cycle_filed way pivot a part old ws n used q d small sh e =
       let st : steady n (take used old) ≡ true = steady_sharp n (take used old) sh in
       let f : length (rotate_runs n pivot false (take used old)) ≤ n = rotate_few n pivot false (take used old) (taken n (take used old) small st) in
       let k : length (rotate_runs n pivot false (take used old)) ≤ 4294967295 = omega arith in
-      rw q (runs_into a part (rotate_runs n pivot false (take used old)) k (e ∙ sym (rotated_written (take used old) n pivot false (mid_of at (length file - at) file) (taken n (take used old) small st))))
+      rw q (runs_into a part (rotate_runs n pivot false (take used old)) k ((rw d at e) ∙ sym (rotated_written (take used old) n pivot false (mid_of at (length file - at) file) (taken n (take used old) small st))))
 
 -- ---- with the table and the state
 

@@ -1,13 +1,9 @@
--- Parts of a slice, lent and back.
-use Prim.Native.Nat.{ℕ, ◌+◌, ◌-◌, ◌≤◌}
-use mathlib.Core.Path.{◌≡◌, sym, ap, ◌∙◌}
+-- The used part of a buffer, from a place on.
+use Prim.Native.Nat.{ℕ, ◌-◌}
+use mathlib.Core.Path.{◌≡◌, ap, ◌∙◌}
 use mathlib.Core.List.{List}
-use native.Mathlib.Omega.{arith}
-use lib.ListN.{take, drop}
-use Rattle.std.proofs.lemmas.List.{drop-take}
+use lib.ListN.{length, take, drop}
+use Rattle.base.proofs.Parts.{tail_is}
 
--- from a place up to an end
-pub part_is : (a e : ℕ) (xs : List ℕ) → a ≤ e → take (e - a) (drop a xs) ≡ drop a (take e xs)
-part_is a e xs h =
-    let d : a + (e - a) ≡ e = omega arith in
-    sym (drop-take a (e - a) xs) ∙ ap (λ (k : ℕ). drop a (take k xs)) d
+pub rest_is : (at used : ℕ) (file part : List ℕ) → part ≡ take used file → take (length part - at) (drop at part) ≡ drop at (take used file)
+rest_is at used file part e = tail_is at part ∙ ap (λ (l : List ℕ). drop at l) e

@@ -32,7 +32,7 @@ use Rattle.store.specs.declared.state.Cell.{Cell}
 use Rattle.store.specs.declared.state.Shared.{Shared}
 use Rattle.store.specs.declared.state.Store.{Store}
 use Rattle.store.proofs.Laws.Adding.{start_within}
-use Rattle.store.proofs.Laws.Parts.{part_is}
+use Rattle.store.proofs.Laws.Parts.{rest_is}
 
 -- ---- the coordinate of a vertex
 
@@ -40,9 +40,9 @@ colored : (w : Result ℕ Refusal) → option_of (result_ok w) ≡ told_coord (o
 colored (Ok coord) = refl
 colored (Err r) = refl
 
-pub from_there : (s : Shared) (runs : List ℕ) (at n v : ℕ) → n ≤ 16777215 → at ≤ s.runs.used → (w : Result ℕ Refusal) → of_colored w ≡ sharp_colour n v (take (s.runs.used - at) (drop at runs)) → option_of (result_ok w) ≡ coord_from s runs at n v
+pub from_there : (s : Shared) (runs part : List ℕ) (at n v : ℕ) → part ≡ take s.runs.used runs → n ≤ 16777215 → at ≤ s.runs.used → (w : Result ℕ Refusal) → of_colored w ≡ sharp_colour n v (take (length part - at) (drop at part)) → option_of (result_ok w) ≡ coord_from s runs at n v
 unfolding coord_from ◌when◌else◌
-from_there s runs at n v h k w e = colored w ∙ ap (λ (x : Answer). told_coord x) e ∙ rw (le-ltb _ _ h, le-ltb _ _ k, part_is at s.runs.used runs k)
+from_there s runs part at n v p h k w e = colored w ∙ ap (λ (x : Answer). told_coord x) e ∙ rw (le-ltb _ _ h, le-ltb _ _ k, rest_is at s.runs.used runs part p)
 
 -- ---- 14, 5
 
@@ -113,13 +113,13 @@ shown_by_lem records.damaged g total out' out e =
     let n : ◌≡◌ {A = ℕ} 5 3 → ⊥ = λ z. omega arith in
     ap₂ pair (read_damage g 5 n (ap (λ (x : Answer × List ℕ). x.0) e)) (ap (λ (x : Answer × List ℕ). x.1) e)
 
-pub given_set : (g : Result Given Refusal) (a : Result ℕ Refusal) (N : ℕ) (c : Cell) (file out' out : List ℕ) (at : ℕ) → at ≤ c.records.used → bad_colors N ≡ false → a ≡ of_read g
-    → ◌≡◌ {A = Answer × List ℕ} (of_given g, out') (read_into N (take (c.records.used - at) (drop at file)) out) → ◌≡◌ {A = Answer × List ℕ} (of_answer a, out') (shown_by (set_from N c file (some at)) out)
+pub given_set : (g : Result Given Refusal) (a : Result ℕ Refusal) (N : ℕ) (c : Cell) (file part out' out : List ℕ) (at : ℕ) → part ≡ take c.records.used file → bad_colors N ≡ false → a ≡ of_read g
+    → ◌≡◌ {A = Answer × List ℕ} (of_given g, out') (read_into N (take (length part - at) (drop at part)) out) → ◌≡◌ {A = Answer × List ℕ} (of_answer a, out') (shown_by (set_from N c file (some at)) out)
 unfolding read_into set_from
-given_set g a N c file out' out at h b k e =
+given_set g a N c file part out' out at h b k e =
     ap (λ (x : Result ℕ Refusal). pair (of_answer x) out') k
-    ∙ shown_by_lem (read_record N (drop at (take c.records.used file))) g (length (take (c.records.used - at) (drop at file))) out' out
-    (e ∙ when_no _ _ _ b ∙ ap (λ (l : List ℕ). read_by (read_record N l) (length (take (c.records.used - at) (drop at file))) out) (part_is at c.records.used file h))
+    ∙ shown_by_lem (read_record N (drop at (take c.records.used file))) g (length (take (length part - at) (drop at part))) out' out
+    (e ∙ when_no _ _ _ b ∙ ap (λ (l : List ℕ). read_by (read_record N l) (length (take (length part - at) (drop at part))) out) (rest_is at c.records.used file part h))
 
 -- ---- the whole call
 

@@ -6,4 +6,5 @@ use Rattle.store.proofs.Laws.Showing.{from_there}
 use Rattle.store.proofs.state.Shared.color_from.Goals as goal
 
 pub returns : goal.returns
-returns c = ap (λ (o : Option ℕ). option_of o) c.ok.ensures.value ∙ from_there _ _ _ _ _ c.if-n-gt16777215.false c.if-end-at.false _ c.sharp_color_at.ensures
+returns c =
+    ap (λ (o : Option ℕ). option_of o) c.ok.ensures.value ∙ from_there _ _ _ _ _ _ c.part-filed.ensures c.if-n-gt16777215.false c.if-self-at.false _ c.sharp_color_at.ensures
