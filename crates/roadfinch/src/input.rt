@@ -1,4 +1,4 @@
-// Input in chunks, chunks to lines.
+// Input in chunks, chunks to lines, in fixed buffers, since the program allocates nothing.
 use crate::output::Output;
 use shell::fields::{front, part};
 use shell::reasons::Fault;

@@ -1,4 +1,5 @@
-// Answers into a buffer, which goes out when it fills.
+// Answers into a buffer, which goes out when it fills. The buffer is fixed, since the program allocates nothing, and the text is put there by the
+// proved functions of shell.
 use shell::fields::front;
 use shell::texts;
 use std::io;

@@ -14,13 +14,10 @@ pub(crate) fn glyph(d: u8) -> u8
 fn digit_count(n: u64) -> usize
     ensures { IsDigitCount 10 1 n result }
 {
-    match n.checked_ilog10() {
-        Some(power) => power as usize + 1,
-        None => 1,
-    }
+    n.checked_ilog10().unwrap_or(0) as usize + 1
 }
 
-// The last digits of a number, as many as a buffer holds.
+// The last digits of a number, as many as a buffer holds. Written here and not by `write!`, since the contract is over the bytes of the buffer.
 fn write_digits(n: u64, out: &mut [u8])
     ensures { out.new ≡ last_digits 10 (length out.old) n }
 {

@@ -64,7 +64,7 @@ pub fn list_at<T: Word>(line: &[u8], from: usize, out: &mut [T]) -> Result<usize
 {
     let mut at = from;
     let mut k = 0;
-    // A line has no more words than bytes.
+    // The turns are counted by the line's bytes, of which each word takes one at least.
     for _ in line {
         let Some(item) = item_at(line, at)? else {
             break;
