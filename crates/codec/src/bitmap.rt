@@ -9,6 +9,7 @@ ghost use Rattle.codec.specs.Inside.Bitmaps.{MapOf};
 
 use crate::bits::BitWriter;
 use crate::colors::ColorSet;
+use crate::source::Source;
 
 // A chunk of the bitmap, and how many ids of the set are passed behind it.
 #[derive(Clone, Copy)]
@@ -86,16 +87,16 @@ pub(crate) fn same_map(bytes: &[u8], at: usize, set: ColorSet) -> Option<usize>
 }
 
 // How many ids the `n` bits from `at` on tell.
-pub(crate) fn count_map(bytes: &[u8], at: usize, n: u32) -> usize
-    requires { (length bytes.now < 2 ^ 60) × (at + n ≤ 8 * length bytes.now) × (n ≤ 2 ^ 20) }
-    ensures { (result ≡ length (ids_of 0 (take n (drop at (bits_of bytes.now))))) × (result ≤ n) }
+pub(crate) fn count_map(source: Source, at: usize, n: u32) -> usize
+    requires { (at + n ≤ 8 * length source.bytes.now) × (n ≤ 2 ^ 20) }
+    ensures { (result ≡ length (ids_of 0 (take n (drop at (bits_of source.entry.bytes.now))))) × (result ≤ n) }
 {
     let mut count: usize = 0;
     let mut base: u32 = 0;
     // By hand: a `for` over `(0..n).step_by(32)`, or over the chunks' numbers, takes two instructions more a chunk.
     while base < n {
         let width = chunk_width(base, n);
-        let word = crate::bits::bits_at(bytes, at + base as usize, width as usize);
+        let word = crate::bits::bits_at(source.bytes, at + base as usize, width as usize);
         count += u64::count_ones(word) as usize;
         base += width;
     }
@@ -121,17 +122,17 @@ pub(crate) fn fill_chunk(word: u64, width: u32, base: u32, out: &mut [u32], k: u
 }
 
 // The ids that the `n` bits from `at` on tell, to the front of `out`.
-pub(crate) fn fill_map(bytes: &[u8], at: usize, n: u32, out: &mut [u32])
-    requires bytes_len_bound { (length bytes.now < 2 ^ 60) × (at + n ≤ 8 * length bytes.now) × (n ≤ 2 ^ 20) }
-    requires bytes_in_bounds { length (ids_of 0 (take n (drop at (bits_of bytes.now)))) ≤ length out.old }
-    ensures { out.new ≡ over (ids_of 0 (take n (drop at (bits_of bytes.now)))) out.old }
+pub(crate) fn fill_map(source: Source, at: usize, n: u32, out: &mut [u32])
+    requires bounds { (at + n ≤ 8 * length source.bytes.now) × (n ≤ 2 ^ 20) }
+    requires bytes_in_bounds { length (ids_of 0 (take n (drop at (bits_of source.bytes.now)))) ≤ length out.old }
+    ensures { out.new ≡ over (ids_of 0 (take n (drop at (bits_of source.entry.bytes.now)))) out.old }
 {
     let mut k: usize = 0;
     let mut base: u32 = 0;
     // By hand, as in `count_map`.
     while base < n {
         let width = chunk_width(base, n);
-        let word = crate::bits::bits_at(bytes, at + base as usize, width as usize);
+        let word = crate::bits::bits_at(source.bytes, at + base as usize, width as usize);
         k = fill_chunk(word, width, base, out, k);
         base += width;
     }

@@ -3,10 +3,11 @@ ghost use Rattle.std.specs.Prelude.{◌≡◌, ◌+◌, ◌-◌, ◌*◌, ◌/�
 ghost use Rattle.codec.specs.Bits.{low_bits};
 ghost use Rattle.codec.specs.Codes.{high_bit, gamma, delta, read_low, read_gamma, read_delta};
 ghost use Rattle.codec.specs.Inside.Places.{ReadCodeAt};
-ghost use Rattle.codec.specs.Inside.Windows.{Window, CodedIn};
+ghost use Rattle.codec.specs.Inside.Windows.{CodedIn};
 ghost use Rattle.codec.specs.Inside.Writers.{Ready, Wrote, CodewordOf, SplitOf};
 
 use crate::bits::BitWriter;
+use crate::source::Source;
 
 // A value and the bit place behind its code. A reader answers none where no value is coded that a set needs.
 #[derive(Clone, Copy)]
@@ -95,56 +96,12 @@ pub(crate) fn delta_of(w: u64) -> Option<Coded>
     })
 }
 
-// The value of the delta code at bit place `at`, among the last eight bytes, which `last` shows. Where
-// it doesn't show a code whole, the plain reader decides.
-pub(crate) fn last_delta(bytes: &[u8], last: u64, at: usize) -> Option<ReadCode>
-    requires bytes_len_bound { (length bytes.now < 2 ^ 60) × (length bytes.now < at / 8 + 8) }
-    requires window { Window bytes.now (length bytes.now - 8) last }
-    ensures { ReadCodeAt read_delta bytes.now at result }
-{
-    let end = bytes.len() * 8;
-    if end <= at {
-        return delta_at(bytes, at);
-    }
-    let past = at - 8 * bytes.len().saturating_sub(8);
-    let Some(Coded { value, count }) = delta_of(last >> past) else {
-        return delta_at(bytes, at);
-    };
-    if end < at + count {
-        return delta_at(bytes, at);
-    }
-    Some(ReadCode {
-        value,
-        next: at + count,
-    })
-}
-
-// The value of the delta code at bit place `at`: one load where eight bytes are left, none behind.
-pub(crate) fn next_delta(bytes: &[u8], last: u64, at: usize) -> Option<ReadCode>
-    requires bytes_len_bound { length bytes.now < 2 ^ 60 }
-    requires window { Window bytes.now (length bytes.now - 8) last }
-    ensures { ReadCodeAt read_delta bytes.now at result }
-{
-    let k = at / 8;
-    if bytes.len() < k + 8 {
-        return last_delta(bytes, last, at);
-    }
-    let w = crate::bits::word_at(bytes, k) >> (at % 8);
-    let Some(Coded { value, count }) = delta_of(w) else {
-        return delta_at(bytes, at);
-    };
-    Some(ReadCode {
-        value,
-        next: at + count,
-    })
-}
-
 // The value of the delta code at bit place `at`, where one is read alone.
 pub(crate) fn read_delta(bytes: &[u8], at: usize) -> Option<ReadCode>
     requires { length bytes.now < 2 ^ 60 }
     ensures { ReadCodeAt read_delta bytes.now at result }
 {
-    next_delta(bytes, crate::bits::last_word(bytes), at)
+    Source::new(bytes).next_delta(at)
 }
 
 // A code as a number and its count of bits, lowest first.

@@ -9,6 +9,7 @@ ghost use Rattle.codec.specs.Inside.Gaps.{coded_ids, numbers, Ahead, up_in, Skip
 use crate::bits::BitWriter;
 use crate::codes::ReadCode;
 use crate::colors::ColorSet;
+use crate::source::Source;
 
 // A place in the ids to code: `i` ids of the set are passed, and the next coded id is `from` or more.
 #[derive(Clone, Copy)]
@@ -151,18 +152,17 @@ pub(crate) fn write_gaps<C: CodedIds>(w: &mut BitWriter, set: ColorSet)
 }
 
 // The place behind the coded ids of a set, where they stand at bit place `at`.
-pub(crate) fn same_gaps<C: CodedIds>(bytes: &[u8], at: usize, set: ColorSet) -> Option<usize>
-    requires { (length bytes.now < 2 ^ 60) × (at ≤ 8 * length bytes.now) }
-    ensures { BitsAt (gap_bits 0 (coded_ids C.dense set.entry.n set.entry.ids.now)) bytes.now at result }
+pub(crate) fn same_gaps<C: CodedIds>(source: Source, at: usize, set: ColorSet) -> Option<usize>
+    requires { at ≤ 8 * length source.bytes.now }
+    ensures { BitsAt (gap_bits 0 (coded_ids C.dense set.entry.n set.entry.ids.now)) source.entry.bytes.now at result }
 {
-    let last = crate::bits::last_word(bytes);
     let mut place = at;
     let mut c = Cursor { i: 0, from: 0 };
     while let Some(NextId { id, next }) = C::next_id(set, c) {
         let ReadCode {
             value,
             next: behind,
-        } = crate::codes::next_delta(bytes, last, place)?;
+        } = source.next_delta(place)?;
         if value != id - c.from {
             return None;
         }
@@ -184,21 +184,20 @@ pub(crate) fn put_id(room: &mut [u32], i: usize, id: u32)
 // The place behind the `n` ids below `top` that are coded from `at` on, where they are. The ids go to the
 // front of `room`, as many as it holds.
 pub(crate) fn read_gaps(
-    bytes: &[u8],
+    source: Source,
     at: usize,
     n: usize,
     top: u32,
     room: &mut [u32],
 ) -> Option<usize>
-    requires bytes_len_bound { (length bytes.now < 2 ^ 60) × (at ≤ 8 * length bytes.now) }
+    requires place { at ≤ 8 * length source.bytes.now }
     requires top_bound { top ≤ 2 ^ 20 }
-    ensures { IdsAt (read_gaps n 0 top) bytes.now at result × Put (read_gaps n 0 top (drop at (bits_of bytes.now))) room.old room.new }
+    ensures { IdsAt (read_gaps n 0 top) source.entry.bytes.now at result × Put (read_gaps n 0 top (drop at (bits_of source.entry.bytes.now))) room.old room.new }
 {
-    let last = crate::bits::last_word(bytes);
     let mut place = at;
     let mut from: u32 = 0;
     for i in 0..n {
-        let ReadCode { value, next } = crate::codes::next_delta(bytes, last, place)?;
+        let ReadCode { value, next } = source.next_delta(place)?;
         if top - from <= value {
             return None;
         }
@@ -220,16 +219,16 @@ pub(crate) fn copy_ids(room: &[u32], n: usize, out: &mut [u32])
 
 // The `n` ids that are coded from `at` on, to the front of `out`: from `room`, where all of them were
 // kept, else by reading them again.
-pub(crate) fn fill_gaps(bytes: &[u8], at: usize, n: usize, top: u32, room: &[u32], out: &mut [u32])
-    requires bytes_len_bound { (length bytes.now < 2 ^ 60) × (at ≤ 8 * length bytes.now) × (top ≤ 2 ^ 20) × (n ≤ length out.old) }
-    requires accepted { Accepted (read_gaps n 0 top (drop at (bits_of bytes.now))) × Kept (read_gaps n 0 top (drop at (bits_of bytes.now))) n room.now }
-    ensures { out.new ≡ over (ids_in (read_gaps n 0 top (drop at (bits_of bytes.now)))) out.old }
+pub(crate) fn fill_gaps(source: Source, at: usize, n: usize, top: u32, room: &[u32], out: &mut [u32])
+    requires bounds { (at ≤ 8 * length source.bytes.now) × (top ≤ 2 ^ 20) × (n ≤ length out.old) }
+    requires accepted { Accepted (read_gaps n 0 top (drop at (bits_of source.bytes.now))) × Kept (read_gaps n 0 top (drop at (bits_of source.bytes.now))) n room.now }
+    ensures { out.new ≡ over (ids_in (read_gaps n 0 top (drop at (bits_of source.entry.bytes.now)))) out.old }
 {
     if n <= room.len() {
         copy_ids(room, n, out);
         return;
     }
-    read_gaps(bytes, at, n, top, out);
+    read_gaps(source, at, n, top, out);
 }
 
 // The numbers from `from` up to `to` to place `k` of `out` on: the place behind them.
@@ -260,37 +259,36 @@ pub(crate) fn fill_outside(others: &[u32], top: u32, out: &mut [u32])
 // The ids below `top` but for the `n` that are coded from `at` on, to the front of `out`: by `room`, where
 // all of those were kept, else by reading them again.
 pub(crate) fn fill_left_out(
-    bytes: &[u8],
+    source: Source,
     at: usize,
     n: usize,
     top: u32,
     room: &[u32],
     out: &mut [u32],
 )
-    requires bytes_len_bound { (length bytes.now < 2 ^ 60) × (top ≤ 2 ^ 20) × (top ≤ n + length out.old) }
-    requires accepted { Accepted (read_gaps n 0 top (drop at (bits_of bytes.now))) × Kept (read_gaps n 0 top (drop at (bits_of bytes.now))) n room.now }
-    ensures { out.new ≡ over (absent top (ids_in (read_gaps n 0 top (drop at (bits_of bytes.now))))) out.old }
+    requires bounds { (top ≤ 2 ^ 20) × (top ≤ n + length out.old) }
+    requires accepted { Accepted (read_gaps n 0 top (drop at (bits_of source.bytes.now))) × Kept (read_gaps n 0 top (drop at (bits_of source.bytes.now))) n room.now }
+    ensures { out.new ≡ over (absent top (ids_in (read_gaps n 0 top (drop at (bits_of source.entry.bytes.now))))) out.old }
 {
     if n <= room.len() {
         let others = &room[..n];
         fill_outside(others, top, out);
         return;
     }
-    fill_uncoded(bytes, at, n, top, out);
+    fill_uncoded(source, at, n, top, out);
 }
 
 // The same, by reading the coded ids.
-pub(crate) fn fill_uncoded(bytes: &[u8], at: usize, n: usize, top: u32, out: &mut [u32])
-    requires bytes_len_bound { (length bytes.now < 2 ^ 60) × (top ≤ 2 ^ 20) × (top ≤ n + length out.old) }
-    requires accepted { Accepted (read_gaps n 0 top (drop at (bits_of bytes.now))) }
-    ensures { out.new ≡ over (absent top (ids_in (read_gaps n 0 top (drop at (bits_of bytes.now))))) out.old }
+pub(crate) fn fill_uncoded(source: Source, at: usize, n: usize, top: u32, out: &mut [u32])
+    requires bounds { (top ≤ 2 ^ 20) × (top ≤ n + length out.old) }
+    requires accepted { Accepted (read_gaps n 0 top (drop at (bits_of source.bytes.now))) }
+    ensures { out.new ≡ over (absent top (ids_in (read_gaps n 0 top (drop at (bits_of source.entry.bytes.now))))) out.old }
 {
-    let last = crate::bits::last_word(bytes);
     let mut place = at;
     let mut from: u32 = 0;
     let mut k: usize = 0;
     for _ in 0..n {
-        let Some(ReadCode { value, next }) = crate::codes::next_delta(bytes, last, place) else {
+        let Some(ReadCode { value, next }) = source.next_delta(place) else {
             return;
         };
         let id = from + value;

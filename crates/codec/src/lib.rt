@@ -11,3 +11,4 @@ pub mod prefix; // LEB128 length prefixes
 mod reader; // a payload and a bit place, at the reader's outer edge
 pub mod records; // records: a length prefix and a payload
 mod sets; // payloads: the three regimes of a set
+mod source; // the bytes of a payload, and the reader of its codes

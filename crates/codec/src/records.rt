@@ -9,6 +9,7 @@ ghost use Rattle.codec.specs.Sets.{encode_set};
 use crate::colors::ColorSet;
 use crate::prefix::Prefix;
 use crate::sets::Payload;
+use crate::source::Source;
 use base::{Given, Refusal};
 
 // Whether a colour count is outside 1 to 1,048,576.
@@ -119,14 +120,14 @@ fn read_whole(
     ensures { (of_given result, ids.new) ≡ read_by (after_prefix n (whole value (drop len input.now))) (length input.now) ids.old }
 {
     let end = len + value;
-    let payload = &input[len..end];
-    let Some(Payload { count, at }) = crate::sets::check_set(n, payload, room) else {
+    let source = Source::new(&input[len..end]);
+    let Some(Payload { count, at }) = crate::sets::check_set(n, source, room) else {
         return Err(Refusal::Damaged);
     };
     if ids.len() < count {
         return Err(Refusal::Space);
     }
-    crate::sets::decode_source_set(n, payload, count, at, room, ids);
+    crate::sets::decode_source_set(n, source, count, at, room, ids);
     Ok(Given {
         items: count,
         bytes: end,

@@ -11,6 +11,7 @@ use crate::bits::BitWriter;
 use crate::codes::ReadCode;
 use crate::colors::ColorSet;
 use crate::gaps::{Absent, Present};
+use crate::source::Source;
 
 // Whether an id is not above the one before it. There is no early way out, so that several ids are
 // compared at a time.
@@ -105,38 +106,38 @@ pub(crate) struct Payload {
 // kept in `room`, if they fit.
 pub(crate) fn check_body(
     n: u32,
-    payload: &[u8],
+    source: Source,
     count: usize,
     at: usize,
     room: &mut [u32],
 ) -> Option<usize>
-    requires { (length payload.now < 2 ^ 60) × (at ≤ 8 * length payload.now) × (n ≤ 2 ^ 20) }
-    ensures { IdsAt (read_body (regime n count) n count) payload.now at result × KeptBy (regime n count) n count (drop at (bits_of payload.now)) room.new }
+    requires { (at ≤ 8 * length source.bytes.now) × (n ≤ 2 ^ 20) }
+    ensures { IdsAt (read_body (regime n count) n count) source.entry.bytes.now at result × KeptBy (regime n count) n count (drop at (bits_of source.entry.bytes.now)) room.new }
 {
     match kind_of(n, count) {
         Kind::Empty => Some(at),
-        Kind::Sparse => crate::gaps::read_gaps(payload, at, count, n, room),
-        Kind::Bitmap => check_map(n, payload, count, at),
-        Kind::Dense => check_absent(n, payload, count, at, room),
+        Kind::Sparse => crate::gaps::read_gaps(source, at, count, n, room),
+        Kind::Bitmap => check_map(n, source, count, at),
+        Kind::Dense => check_absent(n, source, count, at, room),
     }
 }
 
-fn check_map(n: u32, payload: &[u8], count: usize, at: usize) -> Option<usize>
-    requires { (length payload.now < 2 ^ 60) × (at ≤ 8 * length payload.now) × (n ≤ 2 ^ 20) }
-    ensures { IdsAt (read_map n count) payload.now at result }
+fn check_map(n: u32, source: Source, count: usize, at: usize) -> Option<usize>
+    requires { (at ≤ 8 * length source.bytes.now) × (n ≤ 2 ^ 20) }
+    ensures { IdsAt (read_map n count) source.entry.bytes.now at result }
 {
-    if payload.len() * 8 - at < n as usize {
+    if source.bytes.len() * 8 - at < n as usize {
         return None;
     }
-    (crate::bitmap::count_map(payload, at, n) == count).then_some(at + n as usize)
+    (crate::bitmap::count_map(source, at, n) == count).then_some(at + n as usize)
 }
 
-fn check_absent(n: u32, payload: &[u8], count: usize, at: usize, room: &mut [u32]) -> Option<usize>
-    requires { (length payload.now < 2 ^ 60) × (at ≤ 8 * length payload.now) × (n ≤ 2 ^ 20) }
-    ensures { IdsAt (read_body dense n count) payload.now at result × KeptBy dense n count (drop at (bits_of payload.now)) room.new }
+fn check_absent(n: u32, source: Source, count: usize, at: usize, room: &mut [u32]) -> Option<usize>
+    requires { (at ≤ 8 * length source.bytes.now) × (n ≤ 2 ^ 20) }
+    ensures { IdsAt (read_body dense n count) source.entry.bytes.now at result × KeptBy dense n count (drop at (bits_of source.entry.bytes.now)) room.new }
 {
     let absent = (n as usize).checked_sub(count)?;
-    crate::gaps::read_gaps(payload, at, absent, n, room)
+    crate::gaps::read_gaps(source, at, absent, n, room)
 }
 
 // Whether fewer than eight bits are left from `at` on, all zero.
@@ -149,13 +150,13 @@ pub(crate) fn is_padding(payload: &[u8], at: usize) -> bool
 }
 
 // What set a payload is that of, if of any. The ids coded as distances are kept in `room`, if they fit.
-pub(crate) fn check_set(n: u32, payload: &[u8], room: &mut [u32]) -> Option<Payload>
-    requires { (length payload.now < 2 ^ 60) × (n ≤ 2 ^ 20) }
-    ensures { PayloadOf n payload.now result × KeptOf n payload.now result room.new }
+pub(crate) fn check_set(n: u32, source: Source, room: &mut [u32]) -> Option<Payload>
+    requires { n ≤ 2 ^ 20 }
+    ensures { PayloadOf n source.entry.bytes.now result × KeptOf n source.entry.bytes.now result room.new }
 {
-    let ReadCode { value, next } = crate::reader::first_delta(payload)?;
-    let behind = check_body(n, payload, value as usize, next, room)?;
-    is_padding(payload, behind).then_some(Payload {
+    let ReadCode { value, next } = crate::reader::first_delta(source.bytes)?;
+    let behind = check_body(n, source, value as usize, next, room)?;
+    is_padding(source.bytes, behind).then_some(Payload {
         count: value as usize,
         at: next,
     })
@@ -164,34 +165,34 @@ pub(crate) fn check_set(n: u32, payload: &[u8], room: &mut [u32]) -> Option<Payl
 // The ids of a payload to the front of `out`, by `room` where it has them.
 pub(crate) fn decode_source_set(
     n: u32,
-    payload: &[u8],
+    source: Source,
     count: usize,
     at: usize,
     room: &[u32],
     out: &mut [u32],
 )
-    requires payload_len_bound { (length payload.now < 2 ^ 60) × (n ≤ 2 ^ 20) × (count ≤ length out.old) }
-    requires payload_of { PayloadOf n payload.now (Some (record { count = count; at = at })) × KeptOf n payload.now (Some (record { count = count; at = at })) room.now }
-    ensures { out.new ≡ over (set_ids (decode_set n payload.now)) out.old }
+    requires bounds { (n ≤ 2 ^ 20) × (count ≤ length out.old) }
+    requires payload_of { PayloadOf n source.bytes.now (Some (record { count = count; at = at })) × KeptOf n source.bytes.now (Some (record { count = count; at = at })) room.now }
+    ensures { out.new ≡ over (set_ids (decode_set n source.entry.bytes.now)) out.old }
 {
     match kind_of(n, count) {
         Kind::Empty => {}
-        Kind::Sparse => crate::gaps::fill_gaps(payload, at, count, n, room, out),
-        Kind::Bitmap => crate::bitmap::fill_map(payload, at, n, out),
-        Kind::Dense => crate::gaps::fill_left_out(payload, at, n as usize - count, n, room, out),
+        Kind::Sparse => crate::gaps::fill_gaps(source, at, count, n, room, out),
+        Kind::Bitmap => crate::bitmap::fill_map(source, at, n, out),
+        Kind::Dense => crate::gaps::fill_left_out(source, at, n as usize - count, n, room, out),
     }
 }
 
 // The place behind the bits of a set's ids, where they stand at bit place `at`.
-pub(crate) fn same_body(set: ColorSet, payload: &[u8], at: usize) -> Option<usize>
-    requires { (length payload.now < 2 ^ 60) × (at ≤ 8 * length payload.now) }
-    ensures { BitsAt (body_bits (regime set.entry.n (length set.entry.ids.now)) set.entry.n set.entry.ids.now) payload.now at result }
+pub(crate) fn same_body(set: ColorSet, source: Source, at: usize) -> Option<usize>
+    requires { at ≤ 8 * length source.bytes.now }
+    ensures { BitsAt (body_bits (regime set.entry.n (length set.entry.ids.now)) set.entry.n set.entry.ids.now) source.entry.bytes.now at result }
 {
     match kind_of(set.n, set.ids.len()) {
         Kind::Empty => Some(at),
-        Kind::Sparse => crate::gaps::same_gaps::<Present>(payload, at, set),
-        Kind::Bitmap => crate::bitmap::same_map(payload, at, set),
-        Kind::Dense => crate::gaps::same_gaps::<Absent>(payload, at, set),
+        Kind::Sparse => crate::gaps::same_gaps::<Present>(source, at, set),
+        Kind::Bitmap => crate::bitmap::same_map(source.bytes, at, set),
+        Kind::Dense => crate::gaps::same_gaps::<Absent>(source, at, set),
     }
 }
 
@@ -208,7 +209,7 @@ pub(crate) fn same_set(set: ColorSet, payload: &[u8]) -> bool
     if value as usize != set.ids.len() {
         return false;
     }
-    let Some(behind) = same_body(set, payload, next) else {
+    let Some(behind) = same_body(set, Source::new(payload), next) else {
         return false;
     };
     is_padding(payload, behind)

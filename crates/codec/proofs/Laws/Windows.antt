@@ -123,10 +123,19 @@ drop_bits (x ∷ xs) (suc k) =
     let n : 8 * suc k ≡ 8 + 8 * k = omega arith in
     rw n (sym (drop-drop (8 * k) 8 (low_bits 8 x ++ bits_of xs)) ∙ ap (drop (8 * k)) (drop_at (low_bits 8 x) (bits_of xs) 8 (length_low 8 x)) ∙ drop_bits xs k)
 
+-- a window, as the bits it shows and those behind it
+pub behind : (bits : List Bool) (r : ℕ) → take 64 bits ≡ low_bits 64 r → bits ≡ low_bits 64 r ++ drop 64 bits
+behind bits r e = sym (take-append-drop 64 bits) ∙ ap (λ (l : List Bool). l ++ drop 64 bits) e
+
+pub window_from : (bits tail : List Bool) (r : ℕ) → bits ≡ low_bits 64 r ++ tail → take 64 bits ≡ low_bits 64 r
+window_from bits tail r e = ap (take 64) e ∙ take_at (low_bits 64 r) tail 64 (length_low 64 r)
+
 -- the bits from a place with zeros behind them, as the low bits of the shifted number and what follows
-pub window : (xs : List ℕ) (at r : ℕ) (tail : List Bool) → bits_of (drop (at / 8) xs) ++ replicate 64 false ≡ low_bits 64 r ++ tail → at ≤ 8 * length xs
+pub window : (xs : List ℕ) (at r : ℕ) → Window xs (at / 8) r → at ≤ 8 * length xs
     → (more : List Bool) × (drop at (bits_of xs) ++ replicate 64 false ≡ low_bits 57 (r / 2 ^ (at % 8)) ++ more)
-window xs at r tail e h =
+window xs at r shown h =
+    let e = behind (bits_of (drop (at / 8) xs) ++ replicate 64 false) r shown in
+    let tail : List Bool = drop 64 (bits_of (drop (at / 8) xs) ++ replicate 64 false) in
     let j : ℕ = at % 8 in
     let p : at ≡ 8 * (at / 8) + j = omega arith in
     let q : 64 ≡ j + (57 + (7 - j)) = omega arith in
@@ -160,22 +169,25 @@ module _ (bits : List Bool) (w n : ℕ) (more : List Bool) (e : bits ++ replicat
   window_value = ap value_of window_take ∙ value_low n w
 
 -- fewer than eight bytes, with zeros behind them
-pub tail_window : (bits : List Bool) (n r : ℕ) → bits ≡ low_bits n r → r < 2 ^ n → n ≤ 64 → (tail : List Bool) × (bits ++ replicate 64 false ≡ low_bits 64 r ++ tail)
+pub tail_window : (bits : List Bool) (n r : ℕ) → bits ≡ low_bits n r → r < 2 ^ n → n ≤ 64 → take 64 (bits ++ replicate 64 false) ≡ low_bits 64 r
 tail_window bits n r e small h =
     let k : 64 ≡ n + (64 - n) = omega arith in
-    let z : 64 ≡ (64 - n) + n = omega arith in (
-      replicate n false,
+    let z : 64 ≡ (64 - n) + n = omega arith in
+    window_from (bits ++ replicate 64 false) (replicate n false) r
+    (
       ap₂ (λ (l : List Bool) (m : ℕ). l ++ replicate m false) e z ∙ ap (λ (l : List Bool). low_bits n r ++ l) (sym (replicate-append-replicate (64 - n) n false))
-          ∙ sym (append_assoc (low_bits n r) (replicate (64 - n) false) (replicate n false)) ∙ ap (λ (l : List Bool). l ++ replicate n false) (sym (low_more n (64 - n) r small) ∙ ap (λ (m : ℕ). low_bits m r) (sym k)),
+          ∙ sym (append_assoc (low_bits n r) (replicate (64 - n) false) (replicate n false)) ∙ ap (λ (l : List Bool). l ++ replicate n false) (sym (low_more n (64 - n) r small) ∙ ap (λ (m : ℕ). low_bits m r) (sym k))
     )
 
 -- eight bytes, with zeros behind all
-pub word_window : (bits : List Bool) (r : ℕ) (rest : List Bool) → bits ≡ low_bits 64 r ++ rest → (tail : List Bool) × (bits ++ replicate 64 false ≡ low_bits 64 r ++ tail)
-word_window bits r rest e = (_, ap (λ (l : List Bool). l ++ replicate 64 false) e ∙ append_assoc (low_bits 64 r) rest (replicate 64 false))
+pub word_window : (bits : List Bool) (r : ℕ) (rest : List Bool) → bits ≡ low_bits 64 r ++ rest → take 64 (bits ++ replicate 64 false) ≡ low_bits 64 r
+word_window bits r rest e = window_from (bits ++ replicate 64 false) _ r (ap (λ (l : List Bool). l ++ replicate 64 false) e ∙ append_assoc (low_bits 64 r) rest (replicate 64 false))
 
 -- a code that the window at byte k shows whole is the one that is read
 pub window_found : (xs : List ℕ) (k at r : ℕ) → Window xs k r → (v n : ℕ) → (low_bits n (r / 2 ^ (at - 8 * k)) ≡ delta v) × (n ≤ 29) → 8 * k ≤ at → at + n ≤ 8 * k + 64 → at + n ≤ 8 * length xs → ReadCodeAt read_delta xs at (Some (record { value = v; next = at + n }))
-window_found xs k at r w v n c low high h =
+window_found xs k at r shown v n c low high h =
+    let w = behind (bits_of (drop k xs) ++ replicate 64 false) r shown in
+    let after : List Bool = drop 64 (bits_of (drop k xs) ++ replicate 64 false) in
     let past : ℕ = at - 8 * k in
     let here : List Bool = bits_of (drop k xs) in
     let bits : List Bool = drop at (bits_of xs) in
@@ -186,12 +198,12 @@ window_found xs k at r w v n c low high h =
     let inside : past ≤ length here = rw (length_bits (drop k xs), length-drop k xs) (omega arith) in
     let are : n ≤ length bits = rw (length-drop at (bits_of xs), length_bits xs) (omega arith) in
     let same : bits ≡ drop past here = ap (λ (i : ℕ). drop i (bits_of xs)) p ∙ sym (drop-drop past (8 * k) (bits_of xs)) ∙ ap (drop past) (drop_bits xs k) in
-    let u : low_bits 64 r ++ w.0 ≡ low_bits past r ++ (low_bits (n + rest) x ++ w.0) =
-    ap (λ (m : ℕ). low_bits m r ++ w.0) q ∙ ap (λ (l : List Bool). l ++ w.0) (low_add past (n + rest) r) ∙ append_assoc (low_bits past r) (low_bits (n + rest) x) w.0
+    let u : low_bits 64 r ++ after ≡ low_bits past r ++ (low_bits (n + rest) x ++ after) =
+    ap (λ (m : ℕ). low_bits m r ++ after) q ∙ ap (λ (l : List Bool). l ++ after) (low_add past (n + rest) r) ∙ append_assoc (low_bits past r) (low_bits (n + rest) x) after
     in
-    let s : bits ++ replicate 64 false ≡ low_bits n x ++ (low_bits rest (x / 2 ^ n) ++ w.0) =
-    ap (λ (l : List Bool). l ++ replicate 64 false) same ∙ sym (drop-append-le past here (replicate 64 false) inside) ∙ ap (drop past) (w.1 ∙ u) ∙ drop_at (low_bits past r) (low_bits (n + rest) x ++ w.0) past (length_low past r)
-    ∙ ap (λ (l : List Bool). l ++ w.0) (low_add n rest x) ∙ append_assoc (low_bits n x) (low_bits rest (x / 2 ^ n)) w.0
+    let s : bits ++ replicate 64 false ≡ low_bits n x ++ (low_bits rest (x / 2 ^ n) ++ after) =
+    ap (λ (l : List Bool). l ++ replicate 64 false) same ∙ sym (drop-append-le past here (replicate 64 false) inside) ∙ ap (drop past) (w ∙ u) ∙ drop_at (low_bits past r) (low_bits (n + rest) x ++ after) past (length_low past r)
+    ∙ ap (λ (l : List Bool). l ++ after) (low_add n rest x) ∙ append_assoc (low_bits n x) (low_bits rest (x / 2 ^ n)) after
     in
-    let shown : take n bits ≡ delta v = sym (take-append-le n bits (replicate 64 false) are) ∙ ap (take n) s ∙ take_at (low_bits n x) (low_bits rest (x / 2 ^ n) ++ w.0) n (length_low n x) ∙ c.0 in
-    (ap read_delta (sym (take-append-drop n bits) ∙ ap (λ (l : List Bool). l ++ drop n bits) shown) ∙ delta_read v (drop n bits) ∙ ap (got v) (drop-drop n at (bits_of xs)), h)
+    let found : take n bits ≡ delta v = sym (take-append-le n bits (replicate 64 false) are) ∙ ap (take n) s ∙ take_at (low_bits n x) (low_bits rest (x / 2 ^ n) ++ after) n (length_low n x) ∙ c.0 in
+    (ap read_delta (sym (take-append-drop n bits) ∙ ap (λ (l : List Bool). l ++ drop n bits) found) ∙ delta_read v (drop n bits) ∙ ap (got v) (drop-drop n at (bits_of xs)), h)

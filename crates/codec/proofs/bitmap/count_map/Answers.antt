@@ -35,11 +35,11 @@ overflow_add-count c = omega (arith, few c)
 
 pub loop-base-preserved : goal.loop-base-preserved
 loop-base-preserved c =
-    let bytes : List ℕ = c.args.bytes.now in
+    let bytes : List ℕ = c.args.source.bytes.now in
     (omega arith, omega (arith, few c), more (bits_of bytes) c.args.at c.loop-base.base c.chunk_width-width.result _ _ (omega (arith, length_bits bytes)) c.bits_at-word.ensures.0 c.loop-base.invariant.2)
 
 pub returns : goal.returns
 returns c =
     let e : c.loop-base.base ≡ c.args.n = omega arith in
-    let bits : List Bool = drop c.args.at (bits_of c.args.bytes.now) in
+    let bits : List Bool = drop c.args.at (bits_of c.args.source.bytes.now) in
     (c.loop-base.invariant.2 ∙ ap (λ (k : ℕ). length (ids_of 0 (take k bits))) e, omega arith)

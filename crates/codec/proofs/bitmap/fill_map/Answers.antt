@@ -34,12 +34,12 @@ loop-base-init c = (omega arith, refl, refl, sym (over_none c.args.out.now))
 
 -- what a turn adds
 turn : (c : goal.After-bits_at-word)
-    → Added (drop c.args.at (bits_of c.args.bytes.now)) c.loop-base.base c.chunk_width-width.result c.bits_at-word.result c.loop-base.k c.args.n (length c.args.out.now)
+    → Added (drop c.args.at (bits_of c.args.source.bytes.now)) c.loop-base.base c.chunk_width-width.result c.bits_at-word.result c.loop-base.k c.args.n (length c.args.out.now)
 turn c =
-    let bits : List Bool = bits_of c.args.bytes.now in
+    let bits : List Bool = bits_of c.args.source.bytes.now in
     add (drop c.args.at bits) c.loop-base.base c.chunk_width-width.result c.bits_at-word.result c.loop-base.k c.args.n (length c.args.out.now)
     (omega arith)
-    (simp length-drop (omega (arith, length_bits c.args.bytes.now)))
+    (simp length-drop (omega (arith, length_bits c.args.source.bytes.now)))
     (c.bits_at-word.ensures.0 ∙ ap (λ (b : List Bool). value_of (take c.chunk_width-width.result b)) (sym (drop-drop c.loop-base.base c.args.at bits)))
     c.requires.bytes_in_bounds
     c.loop-base.invariant.2
@@ -61,4 +61,4 @@ loop-base-preserved c =
 pub returns : goal.returns
 returns c =
     let e : c.loop-base.base ≡ c.args.n = omega arith in
-    c.loop-base.invariant.3 ∙ ap (λ (k : ℕ). over (ids_of 0 (take k (drop c.args.at (bits_of c.args.bytes.now)))) c.args.out.now) e
+    c.loop-base.invariant.3 ∙ ap (λ (k : ℕ). over (ids_of 0 (take k (drop c.args.at (bits_of c.args.source.bytes.now)))) c.args.out.now) e

@@ -8,7 +8,7 @@ use Rattle.codec.specs.Sets.{ids_of}
 use Rattle.codec.proofs.bitmap.fill_map.Given as goal
 
 abbrev pub invariant-loop-base : goal.invariant-loop-base
-invariant-loop-base l = (l.base ≤ l.n) × (length l.out ≡ length l.initial.out) × (length (ids_of 0 (take l.base (drop l.at (bits_of l.bytes)))) ≡ l.k) × (l.out ≡ over (ids_of 0 (take l.base (drop l.at (bits_of l.bytes)))) l.initial.out)
+invariant-loop-base l = (l.base ≤ l.n) × (length l.out ≡ length l.initial.out) × (length (ids_of 0 (take l.base (drop l.at (bits_of l.source.bytes.now)))) ≡ l.k) × (l.out ≡ over (ids_of 0 (take l.base (drop l.at (bits_of l.source.bytes.now)))) l.initial.out)
 
 abbrev pub decreases-loop-base : goal.decreases-loop-base
 decreases-loop-base l = l.n - l.base

@@ -18,6 +18,6 @@ returns c =
     let bits = bits_of c.args.bytes.now in
     let at = c.args.at in
     let b = c.args.b in
-    let w = window c.args.bytes.now at c.window_at.result c.window_at.ensures.0 c.window_at.ensures.1 (omega arith) in
+    let w = window c.args.bytes.now at c.window_at.result c.window_at.ensures (omega arith) in
     let are : b ≤ length (drop at bits) = rw (length-drop at bits, length_bits c.args.bytes.now) (omega arith) in
     rw (one_shl b (omega arith)) (sym (window_value (drop at bits) _ b w.0 w.1 (omega arith) are), mod-lt _ (pow_pos b))

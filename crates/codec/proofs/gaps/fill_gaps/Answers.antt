@@ -12,4 +12,4 @@ returns-then-n-room c =
 
 pub returns : goal.returns
 returns c =
-    put_ids _ _ _ c.requires.accepted.0 c.args.out.now _ c.read_gaps.ensures.1 c.requires.bytes_len_bound.3
+    put_ids _ _ _ c.requires.accepted.0 c.args.out.now _ c.read_gaps.ensures.1 c.requires.bounds.2

@@ -2,7 +2,6 @@ use Prim.Native.Nat.{ℕ, ◌≤◌, ◌-◌, ◌+◌}
 use mathlib.Core.Path.{◌≡◌, refl, sym, ap, ◌∙◌}
 use mathlib.Core.List.{List, [], ◌++◌, append_assoc}
 use native.Mathlib.Omega.{arith}
-use borrow.Author.Rules.{rules}
 use lib.ListN.{length, drop}
 use Rattle.base.specs.Parts.{over}
 use Rattle.codec.specs.Bits.{bits_of}
@@ -17,16 +16,13 @@ loop-init c =
     let a = c.requires.accepted in
     (omega arith, refl, ([], a.0, refl, sym (over_none _), ap (λ (r : ReadIds). absent c.args.top (ids_in r)) a.2 ∙ absent_all c.args.top a.0, left_all _ _ _ _ a.1 a.2))
 
-pub next_delta-requires : goal.next_delta-requires
-next_delta-requires c = record { bytes_len_bound = search rules; window = c.last_word-last.ensures }
-
 pub returns-in_default : goal.returns-in_default
 returns-in_default c =
-    left_there _ _ _ _ _ _ c.loop.invariant.2.5 c.loop-test.true c.requires.bytes_len_bound.1 c.in_default.ensures
+    left_there _ _ _ _ _ _ c.loop.invariant.2.5 c.loop-test.true c.requires.bounds.0 c.in_default.ensures
 
 turn : (c : goal.In-Some)
     → Turn c.args.n c.loop.counter c.loop.from c.args.top c.in-Some.field-0.value
-    (drop c.in-Some.field-0.next (bits_of c.args.bytes.now)) c.loop.invariant.2.1
+    (drop c.in-Some.field-0.next (bits_of c.args.source.bytes.now)) c.loop.invariant.2.1
 turn c =
     left_turn _ _ _ _ _ _ c.loop.invariant.2.5 c.loop-test.true _ _ c.in-Some.ensures.0
 
@@ -36,20 +32,20 @@ overflow_add-id c = omega (arith, (turn c).below)
 pub fill_numbers-k-requires : goal.fill_numbers-k-requires
 fill_numbers-k-requires c =
     let turn : Turn c.args.n c.loop.counter c.loop.from c.args.top c.in-Some.field-0.value
-    (drop c.in-Some.field-0.next (bits_of c.args.bytes.now)) c.loop.invariant.2.1 = left_turn _ _ _ _ _ _ c.loop.invariant.2.5 c.loop-test.true _ _ c.in-Some.ensures.0 in
+    (drop c.in-Some.field-0.next (bits_of c.args.source.bytes.now)) c.loop.invariant.2.1 = left_turn _ _ _ _ _ _ c.loop.invariant.2.5 c.loop-test.true _ _ c.in-Some.ensures.0 in
     let room : c.loop.from + c.in-Some.field-0.value + c.args.n ≤ c.args.top + c.loop.counter = turn_room _ _ _ _ _ _ _ c.loop-test.true turn in
     (omega arith, omega (arith, room))
 
 pub overflow_add-from : goal.overflow_add-from
 overflow_add-from c =
     let turn : Turn c.args.n c.loop.counter c.loop.from c.args.top c.in-Some.field-0.value
-    (drop c.in-Some.field-0.next (bits_of c.args.bytes.now)) c.loop.invariant.2.1 = left_turn _ _ _ _ _ _ c.loop.invariant.2.5 c.loop-test.true _ _ c.in-Some.ensures.0 in
+    (drop c.in-Some.field-0.next (bits_of c.args.source.bytes.now)) c.loop.invariant.2.1 = left_turn _ _ _ _ _ _ c.loop.invariant.2.5 c.loop-test.true _ _ c.in-Some.ensures.0 in
     omega (arith, turn.below)
 
 pub loop-preserved : goal.loop-preserved
 loop-preserved c =
     let turn : Turn c.args.n c.loop.counter c.loop.from c.args.top c.in-Some.field-0.value
-    (drop c.in-Some.field-0.next (bits_of c.args.bytes.now)) c.loop.invariant.2.1 = left_turn _ _ _ _ _ _ c.loop.invariant.2.5 c.loop-test.true _ _ c.in-Some.ensures.0 in
+    (drop c.in-Some.field-0.next (bits_of c.args.source.bytes.now)) c.loop.invariant.2.1 = left_turn _ _ _ _ _ _ c.loop.invariant.2.5 c.loop-test.true _ _ c.in-Some.ensures.0 in
     let room : c.loop.from + c.in-Some.field-0.value + c.args.n ≤ c.args.top + c.loop.counter = turn_room _ _ _ _ _ _ _ c.loop-test.true turn in
     let t = turn in
     let v = c.loop.invariant.2 in

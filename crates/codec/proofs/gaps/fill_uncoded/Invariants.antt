@@ -13,4 +13,4 @@ use Rattle.codec.proofs.gaps.fill_uncoded.Given as goal
 -- the ids left out below `from` are written, and the coded ones from there on are yet to be read
 abbrev pub invariant-loop : goal.invariant-loop
 invariant-loop l = (l.from ≤ l.top) × (l.k + l.counter ≡ l.from)
-    × ((front : List ℕ) × (ys : List ℕ) × (length front ≡ l.k) × (l.out ≡ over front l.initial.out) × (absent l.top (ids_in (read_gaps l.n 0 l.top (drop l.at (bits_of l.bytes)))) ≡ front ++ absent_from l.from (l.top - l.from) ys) × Left l.n l.counter l.from l.top (drop l.place (bits_of l.bytes)) ys)
+    × ((front : List ℕ) × (ys : List ℕ) × (length front ≡ l.k) × (l.out ≡ over front l.initial.out) × (absent l.top (ids_in (read_gaps l.n 0 l.top (drop l.at (bits_of l.source.bytes.now)))) ≡ front ++ absent_from l.from (l.top - l.from) ys) × Left l.n l.counter l.from l.top (drop l.place (bits_of l.source.bytes.now)) ys)

@@ -2,7 +2,6 @@ use Prim.Native.Nat.{ℕ, ◌-◌, ◌<◌, ◌+◌}
 use mathlib.Core.Path.{◌≡◌, refl, ap, ◌∙◌}
 use mathlib.Core.List.{List, [], ◌∷◌, ◌++◌}
 use native.Mathlib.Omega.{arith}
-use borrow.Author.Rules.{rules}
 use lib.ListN.{length, drop, set, length-set, length-append}
 use Rattle.codec.specs.Bits.{bits_of}
 use Rattle.codec.specs.Sets.{read_gaps}
@@ -16,10 +15,7 @@ whole n = omega arith
 
 pub loop-i-init : goal.loop-i-init
 loop-i-init c =
-    (omega arith, omega arith, refl, ([], refl, put_none c.args.room.now, after_nil _ ∙ ap (λ (k : ℕ). with_ids [] (read_gaps k 0 c.args.top (drop c.args.at (bits_of c.args.bytes.now)))) (whole c.args.n)))
-
-pub next_delta-requires : goal.next_delta-requires
-next_delta-requires c = record { bytes_len_bound = search rules; window = c.last_word-last.ensures }
+    (omega arith, omega arith, refl, ([], refl, put_none c.args.room.now, after_nil _ ∙ ap (λ (k : ℕ). with_ids [] (read_gaps k 0 c.args.top (drop c.args.at (bits_of c.args.source.bytes.now)))) (whole c.args.n)))
 
 pub returns-in_err-value : goal.returns-in_err-value
 returns-in_err-value c =

@@ -16,12 +16,12 @@ got_value {v} {w} {r} {s} e = cc
 pub loop-id-init : goal.loop-id-init
 loop-id-init g c =
     let a = c.args in
-    ([], coding_start g.C.CodedIds.dense a.set.n a.set.ids.now a.set.within, refl, c.requires.1)
+    ([], coding_start g.C.CodedIds.dense a.set.n a.set.ids.now a.set.within, refl, c.requires)
 
 pub returns : goal.returns
 returns g c =
     let a = c.args in
-    (c.loop-id.invariant.2 ∙ ap (λ (x : List Bool). x ++ drop c.loop-id.place (bits_of a.bytes.now)) (sym (coding_end g.C.CodedIds.dense a.set.n a.set.ids.now c.loop-id.c c.loop-id.invariant.0 c.loop-id.invariant.1 c.in_default.ensures)), c.loop-id.invariant.3)
+    (c.loop-id.invariant.2 ∙ ap (λ (x : List Bool). x ++ drop c.loop-id.place (bits_of a.source.bytes.now)) (sym (coding_end g.C.CodedIds.dense a.set.n a.set.ids.now c.loop-id.c c.loop-id.invariant.0 c.loop-id.invariant.1 c.in_default.ensures)), c.loop-id.invariant.3)
 
 pub returns-in_err-value : goal.returns-in_err-value
 returns-in_err-value g c = rw c.from_residual.ensures (λ rest e.
@@ -41,7 +41,7 @@ loop-id-preserved g c =
     let a = c.args in
     let v : ℕ = c.in-Some.field-0.id - c.loop-id.c.from in
     let behind : ℕ = c.in_ok-value.field-0.next in
-    let bits : List Bool = bits_of a.bytes.now in
+    let bits : List Bool = bits_of a.source.bytes.now in
     let same : c.in_ok-value.field-0.value ≡ v = omega arith in (
       c.loop-id.invariant.0 ++ delta v,
       coding_next g.C.CodedIds.dense a.set.n a.set.ids.now c.loop-id.c c.loop-id.invariant.0 c.loop-id.invariant.1 c.in-Some.field-0.id c.in-Some.field-0.next c.in-Some.ensures,

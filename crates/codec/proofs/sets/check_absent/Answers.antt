@@ -12,4 +12,4 @@ pub returns : goal.returns
 returns c =
     let few = c.in_ok-absent.ensures in
     let gaps = rw few.1 at c.read_gaps.ensures in
-    (dense_at _ _ c.args.payload.now c.args.at c.read_gaps.result few.0 gaps.0, put_kept _ _ _ c.args.room.now _ gaps.1)
+    (dense_at _ _ c.args.source.bytes.now c.args.at c.read_gaps.result few.0 gaps.0, put_kept _ _ _ c.args.room.now _ gaps.1)

@@ -31,16 +31,23 @@ returns-then-value-set c =
     let a = c.args in
     sym (gives_other (decode_set a.set.n a.payload.now) a.set.ids.now (λ e. c.if-value-set.true (same_value c.in-Some.ensures.0 (set_begins a.set.n a.set.ids.now a.payload.now e).1)))
 
+pub same_body-requires : goal.same_body-requires
+same_body-requires c =
+    rw c.new.ensures c.in-Some.ensures.1
+
 pub returns-in_default-same_body : goal.returns-in_default-same_body
 returns-in_default-same_body c =
     let a = c.args in
     sym (gives_other (decode_set a.set.n a.payload.now) a.set.ids.now (λ e.
     let s = set_begins a.set.n a.set.ids.now a.payload.now e in
-    c.in_default-same_body.ensures s.0 (same_rest c.in-Some.ensures.0 s.1)))
+    (rw c.new.ensures at c.in_default-same_body.ensures) s.0 (same_rest c.in-Some.ensures.0 s.1)))
+
+pub is_padding-requires : goal.is_padding-requires
+is_padding-requires c = (c.requires, (rw c.new.ensures at c.in-Some-same_body.ensures).1)
 
 pub returns : goal.returns
 returns c =
     let a = c.args in
     let v : c.in-Some.field-0.value ≡ length a.set.ids.now = omega arith in
     let at = c.in-Some.field-0.next in
-    c.is_padding.ensures ∙ sym (gives_same a.set.n a.set.ids.now a.payload.now at c.in-Some-same_body.behind a.set.within (c.in-Some.ensures.0 ∙ ap (λ (n : ℕ). got n (drop at (bits_of a.payload.now))) v) c.in-Some-same_body.ensures.0)
+    c.is_padding.ensures ∙ sym (gives_same a.set.n a.set.ids.now a.payload.now at c.in-Some-same_body.behind a.set.within (c.in-Some.ensures.0 ∙ ap (λ (n : ℕ). got n (drop at (bits_of a.payload.now))) v) (rw c.new.ensures at c.in-Some-same_body.ensures).0)

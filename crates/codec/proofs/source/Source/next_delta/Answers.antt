@@ -5,7 +5,7 @@ use native.Mathlib.Omega.{arith}
 use Rattle.codec.specs.Inside.Windows.{CodedIn}
 use Rattle.std.specs.Prelude.{Some}
 use Rattle.codec.proofs.Laws.Windows.{word_window, window_found}
-use Rattle.codec.proofs.codes.next_delta.Goals as goal
+use Rattle.codec.proofs.source.Source.next_delta.Goals as goal
 
 -- what the window shows, its bit place counted from the window's
 code : (c : goal.In-Some) → CodedIn (c.word_at.result / 2 ^ (c.args.at - 8 * (c.args.at / 8))) (Some c.in-Some.field-0)
@@ -19,4 +19,4 @@ overflow_add-result c = omega (arith, (code c).1)
 
 pub returns : goal.returns
 returns c =
-    window_found c.args.bytes.now (c.args.at / 8) c.args.at c.word_at.result (word_window _ c.word_at.result _ c.word_at.ensures) _ _ (code c) (omega arith) (omega (arith, (code c).1)) (omega (arith, (code c).1))
+    window_found c.args.self.bytes.now (c.args.at / 8) c.args.at c.word_at.result (word_window _ c.word_at.result _ c.word_at.ensures) _ _ (code c) (omega arith) (omega (arith, (code c).1)) (omega (arith, (code c).1))
