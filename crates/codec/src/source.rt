@@ -50,6 +50,7 @@ impl<'a> Source<'a> {
     }
 
     // The value of the delta code at bit place `at`: one load where eight bytes are left, none behind.
+    #[inline(always)]
     pub(crate) fn next_delta(self, at: usize) -> Option<ReadCode>
         ensures { ReadCodeAt read_delta self.entry.bytes.now at result }
     {
