@@ -172,7 +172,8 @@ pub(crate) fn same_gaps<C: CodedIds>(source: Source, at: usize, set: ColorSet) -
     Some(place)
 }
 
-// An id to place `i` of `room`, where that is inside.
+// An id to place `i` of `room`, where that is inside. A slice's `get_mut` promises nothing of the elements
+// afterwards, so the place is tested by hand.
 pub(crate) fn put_id(room: &mut [u32], i: usize, id: u32)
     ensures { room.new ≡ set room.old i id }
 {
@@ -219,7 +220,14 @@ pub(crate) fn copy_ids(room: &[u32], n: usize, out: &mut [u32])
 
 // The `n` ids that are coded from `at` on, to the front of `out`: from `room`, where all of them were
 // kept, else by reading them again.
-pub(crate) fn fill_gaps(source: Source, at: usize, n: usize, top: u32, room: &[u32], out: &mut [u32])
+pub(crate) fn fill_gaps(
+    source: Source,
+    at: usize,
+    n: usize,
+    top: u32,
+    room: &[u32],
+    out: &mut [u32],
+)
     requires bounds { (at ≤ 8 * length source.bytes.now) × (top ≤ 2 ^ 20) × (n ≤ length out.old) }
     requires accepted { Accepted (read_gaps n 0 top (drop at (bits_of source.bytes.now))) × Kept (read_gaps n 0 top (drop at (bits_of source.bytes.now))) n room.now }
     ensures { out.new ≡ over (ids_in (read_gaps n 0 top (drop at (bits_of source.entry.bytes.now)))) out.old }

@@ -6,7 +6,8 @@ ghost use Rattle.codec.specs.Inside.Windows.{Window};
 
 use crate::codes::{Coded, ReadCode};
 
-// A loop that reads codes makes this once. The place of the next code stays a number beside it.
+// Made once for a payload, before its codes are read. The place of the next code stays a number beside it, as in
+// the core's other readers.
 #[derive(Clone, Copy)]
 pub(crate) struct Source<'a> {
     pub(crate) bytes: &'a [u8],
@@ -49,7 +50,8 @@ impl<'a> Source<'a> {
         })
     }
 
-    // The value of the delta code at bit place `at`: one load where eight bytes are left, none behind.
+    // The value of the delta code at bit place `at`: one load where eight bytes are left, none behind. It
+    // stands in the loops that read codes: a call of its own slows them.
     #[inline(always)]
     pub(crate) fn next_delta(self, at: usize) -> Option<ReadCode>
         ensures { ReadCodeAt read_delta self.entry.bytes.now at result }

@@ -175,8 +175,8 @@ tail_window bits n r e small h =
     let z : 64 ≡ (64 - n) + n = omega arith in
     window_from (bits ++ replicate 64 false) (replicate n false) r
     (
-      ap₂ (λ (l : List Bool) (m : ℕ). l ++ replicate m false) e z ∙ ap (λ (l : List Bool). low_bits n r ++ l) (sym (replicate-append-replicate (64 - n) n false))
-          ∙ sym (append_assoc (low_bits n r) (replicate (64 - n) false) (replicate n false)) ∙ ap (λ (l : List Bool). l ++ replicate n false) (sym (low_more n (64 - n) r small) ∙ ap (λ (m : ℕ). low_bits m r) (sym k))
+    ap₂ (λ (l : List Bool) (m : ℕ). l ++ replicate m false) e z ∙ ap (λ (l : List Bool). low_bits n r ++ l) (sym (replicate-append-replicate (64 - n) n false))
+    ∙ sym (append_assoc (low_bits n r) (replicate (64 - n) false) (replicate n false)) ∙ ap (λ (l : List Bool). l ++ replicate n false) (sym (low_more n (64 - n) r small) ∙ ap (λ (m : ℕ). low_bits m r) (sym k))
     )
 
 -- eight bytes, with zeros behind all
