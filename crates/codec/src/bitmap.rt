@@ -93,7 +93,7 @@ pub(crate) fn count_map(source: Source, at: usize, n: u32) -> usize
 {
     let mut count: usize = 0;
     let mut base: u32 = 0;
-    // By hand: a `for` over `(0..n).step_by(32)`, or over the chunks' numbers, takes two instructions more a chunk.
+    // By hand: a `for` over `(0..n).step_by(32)`, or over the numbers of the chunks, takes more instructions a chunk.
     while base < n {
         let width = chunk_width(base, n);
         let word = crate::bits::bits_at(source.bytes, at + base as usize, width as usize);
@@ -112,6 +112,7 @@ pub(crate) fn fill_chunk(word: u64, width: u32, base: u32, out: &mut [u32], k: u
 {
     let mut left = word;
     let mut at = k;
+    // It goes over the bits that are left, and no range of them is known before.
     while left != 0 {
         let z = u64::trailing_zeros(left);
         out[at] = base + z;

@@ -10,6 +10,7 @@ use Rattle.codec.specs.Inside.Gaps.{absent_from, numbers, ids_in}
 use Rattle.codec.proofs.Laws.Filled.{over_none, over_more, long_more}
 use Rattle.codec.proofs.Laws.Gaps.{Turn, left_all, left_turn, left_there, left_none, turn_room, length_numbers, absent_run, absent_end, absent_all}
 use Rattle.codec.proofs.gaps.fill_uncoded.Goals as goal
+use Rattle.codec.proofs.gaps.fill_uncoded.Goals.{In-Some}
 
 pub loop-init : goal.loop-init
 loop-init c =
@@ -20,32 +21,29 @@ pub returns-in_default : goal.returns-in_default
 returns-in_default c =
     left_there _ _ _ _ _ _ c.loop.invariant.2.5 c.loop-test.true c.requires.bounds.0 c.in_default.ensures
 
-turn : (c : goal.In-Some)
+turn_of : (c : goal.In-Some)
     → Turn c.args.n c.loop.counter c.loop.from c.args.top c.in-Some.field-0.value
     (drop c.in-Some.field-0.next (bits_of c.args.source.bytes.now)) c.loop.invariant.2.1
-turn c =
+turn_of c =
     left_turn _ _ _ _ _ _ c.loop.invariant.2.5 c.loop-test.true _ _ c.in-Some.ensures.0
 
 pub overflow_add-id : goal.overflow_add-id
-overflow_add-id c = omega (arith, (turn c).below)
+overflow_add-id c = omega (arith, (turn_of c).below)
 
 pub fill_numbers-k-requires : goal.fill_numbers-k-requires
 fill_numbers-k-requires c =
-    let turn : Turn c.args.n c.loop.counter c.loop.from c.args.top c.in-Some.field-0.value
-    (drop c.in-Some.field-0.next (bits_of c.args.source.bytes.now)) c.loop.invariant.2.1 = left_turn _ _ _ _ _ _ c.loop.invariant.2.5 c.loop-test.true _ _ c.in-Some.ensures.0 in
+    let turn = turn_of (goal.at.fill_numbers-k-requires c).In-Some in
     let room : c.loop.from + c.in-Some.field-0.value + c.args.n ≤ c.args.top + c.loop.counter = turn_room _ _ _ _ _ _ _ c.loop-test.true turn in
     (omega arith, omega (arith, room))
 
 pub overflow_add-from : goal.overflow_add-from
 overflow_add-from c =
-    let turn : Turn c.args.n c.loop.counter c.loop.from c.args.top c.in-Some.field-0.value
-    (drop c.in-Some.field-0.next (bits_of c.args.source.bytes.now)) c.loop.invariant.2.1 = left_turn _ _ _ _ _ _ c.loop.invariant.2.5 c.loop-test.true _ _ c.in-Some.ensures.0 in
+    let turn = turn_of (goal.at.overflow_add-from c).In-Some in
     omega (arith, turn.below)
 
 pub loop-preserved : goal.loop-preserved
 loop-preserved c =
-    let turn : Turn c.args.n c.loop.counter c.loop.from c.args.top c.in-Some.field-0.value
-    (drop c.in-Some.field-0.next (bits_of c.args.source.bytes.now)) c.loop.invariant.2.1 = left_turn _ _ _ _ _ _ c.loop.invariant.2.5 c.loop-test.true _ _ c.in-Some.ensures.0 in
+    let turn = turn_of (goal.at.loop-preserved c).In-Some in
     let room : c.loop.from + c.in-Some.field-0.value + c.args.n ≤ c.args.top + c.loop.counter = turn_room _ _ _ _ _ _ _ c.loop-test.true turn in
     let t = turn in
     let v = c.loop.invariant.2 in
