@@ -8,6 +8,3 @@ loop-i-init g c = (omega arith, omega arith, omega arith, falls_none _ _ _)
 pub loop-i-preserved : goal.loop-i-preserved
 loop-i-preserved g c =
     (omega arith, omega arith, omega arith, falls_next _ _ _ _ _ _ c.loop-i.invariant.3 c.fall_at-count.ensures.0 (omega arith))
-
-pub returns : goal.returns
-returns g c = falls_end _ _ _ _ _ _ c.loop-i.invariant.3 (omega arith)

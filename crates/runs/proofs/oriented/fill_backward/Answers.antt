@@ -6,14 +6,8 @@ use Rattle.runs.proofs.Laws.Reverse.{length_reversed}
 use Rattle.runs.proofs.Laws.Fill.{below_top, backward_more, rest_end}
 use Rattle.runs.proofs.oriented.fill_backward.Goals as goal
 
-pub loop-i-init : goal.loop-i-init
-loop-i-init c = (refl, c.from-top.ensures, omega arith, fill_none _ _)
-
 pub backed-requires : goal.backed-requires
 backed-requires c = (below_top c.args.n c.args.shift c.args.runs.now c.requires.0 _ _ (omega arith) c.from-top.ensures, omega (arith, c.from-top.ensures))
-
-pub bounds-out-i : goal.bounds-out-i
-bounds-out-i c = omega (arith, c.loop-i.invariant.3.long)
 
 pub loop-i-preserved : goal.loop-i-preserved
 loop-i-preserved c =

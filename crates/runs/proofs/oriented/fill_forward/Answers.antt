@@ -4,16 +4,6 @@ use Rattle.runs.proofs.Laws.Lists.{fill_none}
 use Rattle.runs.proofs.Laws.Fill.{forward_more, rest_end}
 use Rattle.runs.proofs.oriented.fill_forward.Goals as goal
 
-pub loop-i-init : goal.loop-i-init
-loop-i-init c = (omega arith, fill_none _ _)
-
-pub overflow_add-out-in-loop-i : goal.overflow_add-out-in-loop-i
-overflow_add-out-in-loop-i c =
-    omega (arith, c.type_inv.runs (c.loop-i.i + 1), c.requires.0 (c.loop-i.i + 1) (omega arith))
-
-pub bounds-out-i : goal.bounds-out-i
-bounds-out-i c = omega (arith, c.loop-i.invariant.1.long)
-
 pub loop-i-preserved : goal.loop-i-preserved
 loop-i-preserved c =
     (omega arith, forward_more c.args.shift c.args.runs.now _ c.loop-i.out c.loop-i.i c.loop-i.invariant.1 (omega arith) (omega (arith, c.loop-i.invariant.1.long)))
