@@ -1,5 +1,5 @@
 use native.Mathlib.Omega.{arith}
-use Rattle.runs.proofs.Laws.Falls.{falls_none, falls_next, falls_end}
+use Rattle.runs.proofs.Laws.Falls.{falls_none, falls_next}
 use Rattle.runs.proofs.orders.falls_from.Goals as goal
 
 pub loop-i-init : goal.loop-i-init

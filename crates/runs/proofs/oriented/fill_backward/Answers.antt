@@ -1,7 +1,6 @@
 use mathlib.Core.Path.{refl}
 use native.Mathlib.Omega.{arith}
 use Rattle.runs.specs.Reverse.{reverse_runs}
-use Rattle.runs.proofs.Laws.Lists.{fill_none}
 use Rattle.runs.proofs.Laws.Reverse.{length_reversed}
 use Rattle.runs.proofs.Laws.Fill.{below_top, backward_more, rest_end}
 use Rattle.runs.proofs.oriented.fill_backward.Goals as goal

@@ -1,6 +1,4 @@
-use Prim.Native.Nat.{◌+◌}
 use native.Mathlib.Omega.{arith}
-use Rattle.runs.proofs.Laws.Lists.{fill_none}
 use Rattle.runs.proofs.Laws.Fill.{forward_more, rest_end}
 use Rattle.runs.proofs.oriented.fill_forward.Goals as goal
 
