@@ -1,97 +1,70 @@
-// The words of a step.
-ghost use Rattle.std.specs.Prelude.{◌≤◌};
+// The words of a step as its arguments.
+use crate::buffers::WORDS;
+use shell::hexes;
+use shell::lists::Word;
+use shell::reasons::Fault;
+use shell::words::Words;
+use std::alloc::{AllocError, Global};
+use thiserror::Error;
 
-use shell::fields::Field;
-use shell::lists::{Item, Listed};
-use shell::{fields, lists};
-
-// A value, and where its word ends.
-#[derive(Clone, Copy)]
-pub struct Next {
-    pub value: u64,
-    pub next: usize,
-    pub good: bool,
-}
-
-// Where a byte stands from `from` on, or the end.
-pub(crate) fn find(text: &[u8], from: usize, b: u8) -> usize {
-    let mut i = from;
-    while i < text.len() {
-        if text[i] == b {
-            return i;
-        }
-        i += 1;
-    }
-    i
-}
-
-fn next_of(item: Item) -> Next {
-    match item {
-        Item::Value { value, next } => Next {
-            value,
-            next,
-            good: true,
-        },
-        Item::Wrong(_) => Next {
-            value: 0,
-            next: 0,
-            good: false,
-        },
-        Item::Nothing => Next {
-            value: 0,
-            next: 0,
-            good: false,
-        },
-    }
+// Why a step has no answer.
+#[derive(Debug, Drop, Error)]
+pub(crate) enum StepError {
+    // It isn't written as a step.
+    #[error("no such step")]
+    Words(#[from] Fault),
+    #[error(transparent)]
+    Memory(#[from(alloc)] AllocError),
 }
 
 // The number that stands next, or the run OFFSET:COORDINATE as one number of 64 bits.
-pub(crate) fn value_at(words: &[u8], from: usize) -> Next {
-    match lists::run_at(words, from) {
-        Item::Value { value, next } => Next {
-            value,
-            next,
-            good: true,
-        },
-        Item::Wrong(_) => next_of(lists::id_at(words, from)),
-        Item::Nothing => Next {
-            value: 0,
-            next: 0,
-            good: false,
-        },
+pub(crate) fn wide(words: &mut Words<'_>) -> Result<u64, Fault> {
+    let mut ahead = *words;
+    if let Ok(Some(run)) = ahead.value::<u64>() {
+        *words = ahead;
+        return Ok(run);
     }
+    let number: Option<u32> = words.value()?;
+    Ok(u64::from(number.ok_or(Fault::Missing)?))
 }
 
-// How many items a list has, none where it isn't one.
-pub(crate) fn count_of(listed: Listed) -> usize {
-    match listed {
-        Listed::Done(count) => count,
-        Listed::Wrong(_) => 0,
-    }
+// The same, cut to 32 bits.
+pub(crate) fn number(words: &mut Words<'_>) -> Result<u32, Fault> {
+    Ok(narrow(wide(words)?))
 }
 
+// The same as a count or a place.
+pub(crate) fn size(words: &mut Words<'_>) -> Result<usize, Fault> {
+    Ok(wide(words)? as usize)
+}
+
+// Whether a 1 stands next.
+pub(crate) fn flag(words: &mut Words<'_>) -> Result<bool, Fault> {
+    Ok(wide(words)? == 1)
+}
+
+// A case may write any number, and a wide one is cut on purpose: no conversion of the library does.
 pub(crate) fn narrow(value: u64) -> u32 {
-    lists::narrow(value)
+    (value & 0xffff_ffff) as u32
 }
 
-// Where the next word stands, empty where there is none.
-pub(crate) fn word_at(words: &[u8], from: usize) -> &[u8] {
-    match fields::next_field(words, from) {
-        Field::Nothing => fields::part(words, 0, 0),
-        Field::At { start, end } => fields::part(words, start, end),
-    }
-}
-
-pub(crate) fn word_end(words: &[u8], from: usize) -> usize {
-    match fields::next_field(words, from) {
-        Field::Nothing => words.len(),
-        Field::At { start: _, end } => end,
-    }
-}
-
-// At most `most`; this says so to the prover.
-pub(crate) fn at_most(a: usize, most: usize) -> usize
-    ensures { result ≤ most }
+// The ids or runs up to the end of the step; none where one can't be read, or there are too many.
+pub(crate) fn list<T>(alloc: Global, words: Words<'_>) -> Result<Vec<T>, AllocError>
+where
+    T: Word + From<u8>,
 {
-    if a < most { a } else { most }
+    let mut items = Vec::new(alloc);
+    items.resize(WORDS, T::from(0))?;
+    let count = words.values(&mut items).unwrap_or(0);
+    items.truncate(count);
+    Ok(items)
+}
+
+// The bytes that the next word says in hexadecimal; none where it doesn't.
+pub(crate) fn bytes(alloc: Global, words: &mut Words<'_>) -> Result<Vec<u8>, AllocError> {
+    let text = words.next().unwrap_or(b"");
+    let mut bytes = vec![in alloc; 0u8; text.len()]?;
+    let count = hexes::unhex(text, &mut bytes).unwrap_or(0);
+    bytes.truncate(count);
+    Ok(bytes)
 }

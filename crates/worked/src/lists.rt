@@ -1,171 +1,118 @@
-// Run lists, into outputs that hold 8 at each place.
-use crate::buffers::Words;
-use crate::replies::{Reply, Turn};
-use crate::{args, compare, replies};
-use base::Written;
-use runs::append::Appended;
-use shell::{fields, lists};
+// Run lists, into an output that holds 8 at each place.
+use crate::args::{StepError, flag, list, number, size};
+use crate::bench::Bench;
+use crate::buffers::{Buffer, EIGHT, WORDS};
+use crate::replies::{Reply, Said};
+use base::Refusal;
+use runs::{append, reverse, rotate};
+use shell::fields::front;
+use shell::words::Words;
+use std::alloc::AllocError;
+use std::ops::Range;
 
-fn written(w: Written) -> usize {
-    match w {
-        Written::Done(k) => k,
-        Written::Refused(_) => 0,
+// Whether two lists are the same but for some places.
+fn same_outside(range: Range<usize>, before: &[u64], after: &[u64]) -> bool {
+    before
+        .iter()
+        .zip(after)
+        .enumerate()
+        .all(|(place, (was, is))| range.contains(&place) || was == is)
+}
+
+impl Bench {
+    // Eights in each place of the output but at its front, where these runs stand; so much of it is lent.
+    fn refill(&mut self, runs: &[u64], lent: usize) -> Result<(), AllocError> {
+        self.out = Buffer::filled(self.alloc, WORDS, EIGHT, lent)?;
+        for (place, run) in self.out.places.iter_mut().zip(runs) {
+            *place = *run;
+        }
+        Ok(())
     }
-}
 
-fn runs_reply(w: Written, kept: bool) -> Reply {
-    match w {
-        Written::Done(count) => Reply::Runs { count, kept },
-        Written::Refused(reason) => Reply::Refused { reason, kept },
-    }
-}
-
-// out OFFSET:COORDINATE..: an output that holds these runs.
-pub(crate) fn list(words: &[u8], out: &mut Words) -> Reply {
-    *out = [8u64; 16];
-    let count = args::count_of(lists::runs_at(words, 0, out));
-    Reply::Runs { count, kept: true }
-}
-
-fn reverse_in(list: &[u64], n: u32, room: usize, out: &mut [u64]) -> Written {
-    let k = args::at_most(room, out.len());
-    runs::reverse::reverse_color_runs(list, n, &mut out[..k])
-}
-
-// reverse N ROOM OFFSET:COORDINATE..
-pub(crate) fn reverse(words: &[u8], piece: &mut Words, out: &mut Words) -> Reply {
-    let n = args::value_at(words, 0);
-    let room = args::value_at(words, n.next);
-    if !room.good {
-        return Reply::Fault;
-    }
-    let count = args::count_of(lists::runs_at(words, room.next, piece));
-    let eights = [8u64; 16];
-    *out = eights;
-    let w = reverse_in(
-        lists::front_runs(piece, count),
-        args::narrow(n.value),
-        room.value as usize,
-        out,
-    );
-    runs_reply(w, compare::same_words(&eights, out, 0, written(w)))
-}
-
-fn swap_in(n: u32, count: usize, out: &mut [u64]) -> Written {
-    let k = args::at_most(count, out.len());
-    runs::reverse::reverse_color_runs_in_place(&mut out[..k], n)
-}
-
-// swap N OFFSET:COORDINATE..: in its own place
-pub(crate) fn swap(words: &[u8], out: &mut Words) -> Reply {
-    let n = args::value_at(words, 0);
-    if !n.good {
-        return Reply::Fault;
-    }
-    *out = [8u64; 16];
-    let count = args::count_of(lists::runs_at(words, n.next, out));
-    let before = *out;
-    let w = swap_in(args::narrow(n.value), count, out);
-    runs_reply(w, compare::same_words(&before, out, 0, written(w)))
-}
-
-fn rotate_in(
-    list: &[u64],
-    n: u32,
-    pivot: u32,
-    reversed: bool,
-    room: usize,
-    out: &mut [u64],
-) -> Written {
-    let k = args::at_most(room, out.len());
-    runs::rotate::rotate_cycle_color_runs(list, n, pivot, reversed, &mut out[..k])
-}
-
-// rotate N PIVOT 0|1 ROOM OFFSET:COORDINATE..
-pub(crate) fn rotate(words: &[u8], piece: &mut Words, out: &mut Words) -> Reply {
-    let n = args::value_at(words, 0);
-    let pivot = args::value_at(words, n.next);
-    let reversed = args::value_at(words, pivot.next);
-    let room = args::value_at(words, reversed.next);
-    if !room.good {
-        return Reply::Fault;
-    }
-    let count = args::count_of(lists::runs_at(words, room.next, piece));
-    let eights = [8u64; 16];
-    *out = eights;
-    let w = rotate_in(
-        lists::front_runs(piece, count),
-        args::narrow(n.value),
-        args::narrow(pivot.value),
-        reversed.value == 1,
-        room.value as usize,
-        out,
-    );
-    runs_reply(w, compare::same_words(&eights, out, 0, written(w)))
-}
-
-fn append_in(
-    room: usize,
-    used: usize,
-    count: u32,
-    list: &[u64],
-    n: u32,
-    reversed: bool,
-    out: &mut [u64],
-) -> Appended {
-    let k = args::at_most(room, out.len());
-    runs::append::append_color_runs(&mut out[..k], used, count, list, n, reversed)
-}
-
-fn appended_reply(a: Appended, kept: bool) -> Reply {
-    match a {
-        Appended::Done { runs, vertices } => Reply::Appended {
-            count: runs,
-            vertices,
+    // So many runs at the front of the output, and whether it held `before` but for some places.
+    fn told(
+        &self,
+        answer: Result<usize, Refusal>,
+        of: Option<usize>,
+        kept: bool,
+    ) -> Result<Reply, AllocError> {
+        let count = answer.unwrap_or(0);
+        let runs = front(&self.out.places, count).to_vec(self.alloc)?;
+        Ok(Reply::Called {
+            answer: answer.map(|_| Said::Runs { runs, of }),
             kept,
-        },
-        Appended::Refused(reason) => Reply::Refused { reason, kept },
+        })
     }
-}
 
-fn appended_end(a: Appended, used: usize) -> usize {
-    match a {
-        Appended::Done { runs, vertices: _ } => runs,
-        Appended::Refused(_) => used,
+    // out OFFSET:COORDINATE..: an output that holds these runs.
+    pub(crate) fn list(&mut self, words: Words<'_>) -> Result<Reply, StepError> {
+        let runs: Vec<u64> = list(self.alloc, words)?;
+        self.refill(&runs, WORDS)?;
+        Ok(self.told(Ok(runs.len()), None, true)?)
     }
-}
 
-// append ROOM USED COUNT N 0|1 OFFSET:COORDINATE..: behind the runs of the output that there is
-pub(crate) fn append(
-    turn: Turn,
-    word: &[u8],
-    words: &[u8],
-    piece: &mut Words,
-    out: &mut Words,
-) -> Turn {
-    if !fields::same(word, b"append") {
-        return replies::fault(turn);
+    // reverse N ROOM OFFSET:COORDINATE..
+    pub(crate) fn reverse(&mut self, mut words: Words<'_>) -> Result<Reply, StepError> {
+        let n = number(&mut words)?;
+        let room = size(&mut words)?;
+        let runs: Vec<u64> = list(self.alloc, words)?;
+        self.refill(&[], room)?;
+        let answer = reverse::reverse_color_runs(&runs, n, self.out.front_mut());
+        let kept = self.out.is_fresh_from(answer.unwrap_or(0));
+        Ok(self.told(answer, None, kept)?)
     }
-    let room = args::value_at(words, 0);
-    let used = args::value_at(words, room.next);
-    let count = args::value_at(words, used.next);
-    let n = args::value_at(words, count.next);
-    let reversed = args::value_at(words, n.next);
-    if !reversed.good {
-        return replies::fault(turn);
+
+    // swap N OFFSET:COORDINATE..: in its own place
+    pub(crate) fn swap(&mut self, mut words: Words<'_>) -> Result<Reply, StepError> {
+        let n = number(&mut words)?;
+        let runs: Vec<u64> = list(self.alloc, words)?;
+        self.refill(&runs, runs.len())?;
+        let before = self.out.places.clone()?;
+        let answer = reverse::reverse_color_runs_in_place(self.out.front_mut(), n);
+        let kept = same_outside(0..answer.unwrap_or(0), &before, &self.out.places);
+        Ok(self.told(answer, None, kept)?)
     }
-    let k = args::count_of(lists::runs_at(words, reversed.next, piece));
-    let before = *out;
-    let at = used.value as usize;
-    let a = append_in(
-        room.value as usize,
-        at,
-        args::narrow(count.value),
-        lists::front_runs(piece, k),
-        args::narrow(n.value),
-        reversed.value == 1,
-        out,
-    );
-    let kept = compare::same_words(&before, out, at, appended_end(a, at));
-    replies::say(turn, appended_reply(a, kept))
+
+    // rotate N PIVOT 0|1 ROOM OFFSET:COORDINATE..
+    pub(crate) fn rotate(&mut self, mut words: Words<'_>) -> Result<Reply, StepError> {
+        let n = number(&mut words)?;
+        let pivot = number(&mut words)?;
+        let reversed = flag(&mut words)?;
+        let room = size(&mut words)?;
+        let runs: Vec<u64> = list(self.alloc, words)?;
+        self.refill(&[], room)?;
+        let answer = rotate::rotate_cycle_color_runs(
+            &runs,
+            n,
+            pivot,
+            reversed,
+            self.out.front_mut(),
+        );
+        let kept = self.out.is_fresh_from(answer.unwrap_or(0));
+        Ok(self.told(answer, None, kept)?)
+    }
+
+    // append ROOM USED COUNT N 0|1 OFFSET:COORDINATE..: behind the runs of the output that there is
+    pub(crate) fn append(&mut self, mut words: Words<'_>) -> Result<Reply, StepError> {
+        let room = size(&mut words)?;
+        let used = size(&mut words)?;
+        let count = number(&mut words)?;
+        let n = number(&mut words)?;
+        let reversed = flag(&mut words)?;
+        let piece: Vec<u64> = list(self.alloc, words)?;
+        let before = self.out.places.clone()?;
+        self.out.lent = room;
+        let answer = append::append_color_runs(
+            self.out.front_mut(),
+            used,
+            count,
+            &piece,
+            n,
+            reversed,
+        );
+        let end = answer.map_or(used, |appended| appended.runs);
+        let kept = same_outside(used..end, &before, &self.out.places);
+        let vertices = answer.ok().map(|appended| appended.vertices as usize);
+        Ok(self.told(answer.map(|appended| appended.runs), vertices, kept)?)
+    }
 }

@@ -1,151 +1,82 @@
-// What a step answers, and what it leaves.
+// What a step answers, as text: ok VALUE.. or refused K, and whether something was altered.
 use base::Refusal;
-use store::state::{Answer, Cell, Current, Extent, Last, Shared, Store};
+use runs::words;
+use std::fmt;
 
-#[derive(Clone, Copy)]
-pub enum Reply {
+// What comes with a success.
+#[derive(Debug, Drop)]
+pub(crate) enum Said {
+    // Nothing but that it is done.
+    Made,
+    Value(u64),
+    // Ids, and how many bytes they were read from where they were read from bytes.
+    Ids { ids: Vec<u32>, of: Option<usize> },
+    Bytes(Vec<u8>),
+    Entries(Vec<u64>),
+    // Runs, and how many bytes they were read from, or how many vertices they have.
+    Runs { runs: Vec<u64>, of: Option<usize> },
+}
+
+#[derive(Debug, Drop)]
+pub(crate) enum Reply {
     // Nothing to tell of.
-    Nothing,
+    Done,
     // A step that isn't written as one.
-    Fault,
-    // A refusal; whether nothing was altered.
-    Refused {
-        reason: Refusal,
-        kept: bool,
-    },
-    // A value; whether nothing was altered.
-    Done {
-        value: u64,
-        kept: bool,
-    },
-    // Done; whether nothing was altered but what has to be.
-    Made {
-        kept: bool,
-    },
-    // So many ids in the output, from so many bytes where they were read from bytes.
-    Shown {
-        count: usize,
-        kept: bool,
-    },
-    Ids {
-        items: usize,
-        bytes: usize,
-        kept: bool,
-    },
-    // So many bytes in the output.
-    Bytes {
-        len: usize,
-        kept: bool,
-    },
-    // So many entries in the output.
-    Entries {
-        count: usize,
-        kept: bool,
-    },
-    // So many runs in the output.
-    Runs {
-        count: usize,
-        kept: bool,
-    },
-    // So many, read from so many bytes.
-    Unpacked {
-        count: usize,
-        bytes: usize,
-        kept: bool,
-    },
-    // So many, of so many vertices.
-    Appended {
-        count: usize,
-        vertices: u32,
+    NoStep,
+    // What a call answered, and whether nothing was altered but what has to be.
+    Called {
+        answer: Result<Said, Refusal>,
         kept: bool,
     },
 }
 
-// How much of each buffer is lent.
-#[derive(Clone, Copy)]
-pub struct Lens {
-    pub records: usize,
-    pub index: usize,
-    pub opened: usize,
-    pub held: usize,
-    pub runs: usize,
-    pub table: usize,
-}
-
-#[derive(Clone, Copy)]
-pub struct Turn {
-    pub store: Store,
-    pub lens: Lens,
-    pub reply: Reply,
-}
-
-// No store: it has no colours, so that each call on it is 15.
-pub(crate) fn beginning() -> Turn {
-    Turn {
-        store: Store {
-            colors: 0,
-            cell: Cell {
-                worker: 0,
-                records: Extent { length: 0, used: 0 },
-                index: 0,
-                sets: 0,
-                opened: Extent { length: 0, used: 0 },
-                held: Extent { length: 0, used: 0 },
-                current: Current::Nothing,
-                number: 0,
-                last: Last::Fresh,
-                answer: 0,
-            },
-            shared: Shared {
-                runs: Extent { length: 0, used: 0 },
-                table: 0,
-                unitigs: 0,
-            },
-        },
-        lens: Lens {
-            records: 0,
-            index: 0,
-            opened: 0,
-            held: 0,
-            runs: 0,
-            table: 0,
-        },
-        reply: Reply::Nothing,
+// How many there are, and of how many.
+fn count<W: fmt::Write>(f: &mut fmt::Formatter<W>, items: usize, of: Option<usize>) -> fmt::Result {
+    match of {
+        Some(of) => write!(f, "ok {items} of {of}:"),
+        None => write!(f, "ok {items}:"),
     }
 }
 
-// The same store, and this to say.
-pub(crate) fn say(turn: Turn, reply: Reply) -> Turn {
-    let store = turn.store;
-    let lens = turn.lens;
-    Turn { store, lens, reply }
-}
-
-pub(crate) fn fault(turn: Turn) -> Turn {
-    say(turn, Reply::Fault)
-}
-
-pub(crate) fn told(answer: Answer, kept: bool) -> Reply {
-    match answer {
-        Answer::Done(value) => Reply::Done { value, kept },
-        Answer::Refused(reason) => Reply::Refused { reason, kept },
+impl fmt::Display for Said {
+    fn fmt<W: fmt::Write>(&self, f: &mut fmt::Formatter<W>) -> fmt::Result {
+        match self {
+            Said::Made => write!(f, "ok"),
+            Said::Value(value) => write!(f, "ok {value}"),
+            Said::Ids { ids, of } => {
+                count(f, ids.len(), *of)?;
+                ids.iter().try_for_each(|id| write!(f, " {id}"))
+            }
+            Said::Bytes(bytes) => {
+                count(f, bytes.len(), None)?;
+                bytes.iter().try_for_each(|byte| write!(f, " {byte:02X}"))
+            }
+            Said::Entries(entries) => {
+                write!(f, "ok:")?;
+                entries.iter().try_for_each(|entry| write!(f, " {entry}"))
+            }
+            Said::Runs { runs, of } => {
+                count(f, runs.len(), *of)?;
+                runs.iter().try_for_each(|run| {
+                    write!(f, " {}:{}", words::offset(*run), words::coordinate(*run))
+                })
+            }
+        }
     }
 }
 
-pub(crate) fn shown(answer: Answer, kept: bool) -> Reply {
-    match answer {
-        Answer::Done(value) => Reply::Shown {
-            count: value as usize,
-            kept,
-        },
-        Answer::Refused(reason) => Reply::Refused { reason, kept },
-    }
-}
-
-// How many places of an output an answer speaks of.
-pub(crate) fn count_of(answer: Answer) -> usize {
-    match answer {
-        Answer::Done(value) => value as usize,
-        Answer::Refused(_) => 0,
+impl fmt::Display for Reply {
+    fn fmt<W: fmt::Write>(&self, f: &mut fmt::Formatter<W>) -> fmt::Result {
+        match self {
+            Reply::Done => write!(f, "done"),
+            Reply::NoStep => write!(f, "no such step"),
+            Reply::Called { answer, kept } => {
+                match answer {
+                    Ok(said) => write!(f, "{said}")?,
+                    Err(refusal) => write!(f, "refused {}", u32::from(*refusal))?,
+                }
+                write!(f, ", {}", if *kept { "kept" } else { "altered" })
+            }
+        }
     }
 }

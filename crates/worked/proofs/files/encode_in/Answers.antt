@@ -1,6 +1,0 @@
--- `worked::files::encode_in` is safe and ends.
-use Rattle.std.proofs.Common.{sym, length-take-le, rules}
-use Rattle.worked.proofs.files.encode_in.Goals as goal
-
-pub slice_bounds-write_color_record-end-2 : goal.slice_bounds-write_color_record-end-2
-slice_bounds-write_color_record-end-2 c = sym (length-take-le _ _ (search rules))

@@ -1,6 +1,0 @@
--- `worked::lists::append_in` is safe and ends.
-use Rattle.std.proofs.Common.{sym, length-take-le, rules}
-use Rattle.worked.proofs.lists.append_in.Goals as goal
-
-pub slice_bounds-append_color_runs-end-2 : goal.slice_bounds-append_color_runs-end-2
-slice_bounds-append_color_runs-end-2 c = sym (length-take-le _ _ (search rules))

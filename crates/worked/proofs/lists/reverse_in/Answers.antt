@@ -1,6 +1,0 @@
--- `worked::lists::reverse_in` is safe and ends.
-use Rattle.std.proofs.Common.{sym, length-take-le, rules}
-use Rattle.worked.proofs.lists.reverse_in.Goals as goal
-
-pub slice_bounds-reverse_color_runs-end-2 : goal.slice_bounds-reverse_color_runs-end-2
-slice_bounds-reverse_color_runs-end-2 c = sym (length-take-le _ _ (search rules))
