@@ -138,10 +138,6 @@ module _ (N : ℕ) (ids : List ℕ) (i from : ℕ) where
   pub skipped_all : (k : ℕ) → Skipped N ids i from k → (i + k < length ids → get_or ids (i + k) 0 ≡ from + k → ⊥) → Within (from + k + 1) N (drop (i + k) ids)
   skipped_all k s other = within_past (drop (i + k) ids) (from + k) N s.left (λ h x. other (omega (arith, h, length-drop (i + k) ids)) (sym (first_at (i + k)) ∙ x))
 
-  -- an id behind those skipped is that far up at least
-  pub skipped_high : (k w : ℕ) → Skipped N ids i from k → i + k + w < length ids → from + k + w ≤ get_or ids (i + k + w) 0
-  skipped_high k w s h = subst (λ (x : ℕ). from + k + w ≤ x) (get_or-drop (i + k) ids w 0) (within_at (drop (i + k) ids) (from + k) N w s.left (simp length-drop (omega arith)))
-
   -- of w ids, those that are as far up as they are behind are the first ones
   record Counted (k w c : ℕ) : Type 0 where
     pub few : c ≤ w

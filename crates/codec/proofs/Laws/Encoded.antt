@@ -91,9 +91,6 @@ encoded N r ids out after f w is a n e =
 
 -- ---- a part up to the end of a buffer, lent and back
 
-pub bytes_tail : (a : ℕ) (xs : List ℕ) → AreBytes xs → AreBytes (take (length xs - a) (drop a xs))
-bytes_tail a xs h = λ i. rw (tail_is a xs, get_or-drop a xs i 0) (h (a + i))
-
 -- ---- records
 
 pub good_colors : (N : ℕ) → bad_colors N ≡ false → (1 ≤ N) × (N ≤ 2 ^ 20)

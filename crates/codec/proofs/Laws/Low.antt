@@ -103,41 +103,12 @@ bit_of (x ∷ xs) i h = go (dec_lt i 8) (bit_of xs (i - 8))
         in
         rw (q, r) (t ∙ ih (omega (arith, h)))
 
-pub value_snoc : (bs : List Bool) (b : Bool) → value_of (bs ++ (b ∷ [])) ≡ value_of bs + digit b * 2 ^ length bs
-unfolding value_of
-value_snoc [] false = refl
-value_snoc [] true = refl
-value_snoc (c ∷ bs) false = omega (arith, value_snoc bs false)
-value_snoc (c ∷ bs) true = omega (arith, value_snoc bs true, pow-suc 2 (length bs))
-
--- one bit more of a stream
-pub value_more : (bits : List Bool) (at i : ℕ) → at + i < length bits → value_of (take (i + 1) (drop at bits)) ≡ value_of (take i (drop at bits)) + digit (get_or bits (at + i) false) * 2 ^ i
-value_more bits at i h =
-    let room : i < length (drop at bits) = simp length-drop (omega arith) in
-    rw (add-one, take-suc (drop at bits) i false room, value_snoc, length-take-le i (drop at bits) (omega (arith, room)), get_or-drop)
-
 pub value_take_lt : (bits : List Bool) (at i : ℕ) → value_of (take i (drop at bits)) < 2 ^ i
 value_take_lt bits at i = lt_of_lt_of_le (value_lt (take i (drop at bits))) (pow_mono (simp length-take (omega arith)))
-
-pub shl_digit : (k : ℕ) (b : Bool) (i : ℕ) → i < k → digit b * 2 ^ i % 2 ^ k ≡ digit b * 2 ^ i
-shl_digit k false i h = rw zero-mul (mod-eq_of_lt (pow_pos k))
-shl_digit k true i h = rw one-mul (mod-eq_of_lt (pow-lt h))
 
 -- a one shifted within 64 bits
 pub one_shl : (b : ℕ) → b < 64 → 1 * 2 ^ b % 2 ^ 64 ≡ 2 ^ b
 one_shl b h = rw one-mul (mod-eq_of_lt (pow-lt {j = 64} h))
-
-pub digit_lt : (b : Bool) → digit b < 2
-digit_lt true = omega arith
-digit_lt false = omega arith
-
-pub digit_zero : (b : Bool) → digit b ≡ 0 → b ≡ false
-digit_zero false e = refl
-digit_zero true e = absurd (omega arith)
-
-pub digit_one : (b : Bool) → (digit b ≡ 0 → ⊥) → b ≡ true
-digit_one false e = absurd (e refl)
-digit_one true e = refl
 
 -- the bit at a place, if there is one
 pub bit_past : (xs : List ℕ) (at : ℕ) → length xs ≤ at / 8 → slice_get (bits_of xs) at ≡ None
