@@ -5,13 +5,13 @@ use mathlib.Core.Bool.{Bool, true, false}
 use mathlib.Core.List.{List, [], ◌∷◌, ◌++◌}
 use native.Mathlib.Omega.{arith}
 use lib.ListN.{length, take, drop, set, length-append, length-drop}
-use lib.Seq.{take_at, drop_at, drop-drop, get_or-drop}
+use lib.Seq.{take_at, drop_at, drop-drop}
 use lib.Dec.{eqb, ltb}
 use borrow.Author.Tests.{ltb-false, eqb-false}
 use Rattle.base.specs.Parts.{over}
 use Rattle.base.proofs.Bools.{or_none}
 use Rattle.base.proofs.Parts.{length_over, over_behind, tail_is, put_tail}
-use Rattle.codec.specs.Bits.{low_bits, bits_of, pack_bits, bytes_for, AreBytes}
+use Rattle.codec.specs.Bits.{low_bits, bits_of, pack_bits, bytes_for}
 use Rattle.codec.specs.Codes.{delta}
 use Rattle.codec.specs.Prefix.{prefix_of}
 use Rattle.codec.specs.Sets.{Within, map_bits, gap_bits, Regime, regime, body_bits, set_bits, encode_set}

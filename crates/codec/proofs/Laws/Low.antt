@@ -3,12 +3,11 @@ use Prim.Native.Nat.{ℕ, zero, suc, ◌+◌, ◌-◌, ◌*◌, ◌/◌, ◌%◌
 use mathlib.Core.Path.{◌≡◌, refl, sym, ap, ap₂, ◌∙◌}
 use mathlib.Core.Bool.{Bool, true, false}
 use mathlib.Core.List.{List, [], ◌∷◌, ◌++◌}
-use native.Mathlib.Nat.{pow-suc, mod-one, div-div-eq-div-mul, mul_comm, zero-lt-suc, suc-add, zero-add, div-one, add-mul-div_right, add-mul-mod_self_right, mod-eq_of_lt, div-eq_of_lt, zero-mul, one-mul, lt_of_lt_of_le}
-use native.Mathlib.Numerals.{add-one}
+use native.Mathlib.Nat.{pow-suc, mod-one, div-div-eq-div-mul, mul_comm, zero-lt-suc, suc-add, zero-add, div-one, add-mul-div_right, add-mul-mod_self_right, mod-eq_of_lt, div-eq_of_lt, one-mul, lt_of_lt_of_le}
 use native.Mathlib.Decide.{dec_lt}
 use native.Mathlib.Omega.{arith}
-use lib.ListN.{length, take, drop, get_or, length-append, length-take, length-drop, get_or-append}
-use lib.Seq.{get_or-append-add, take-suc, get_or-drop, length-take-le}
+use lib.ListN.{length, take, drop, get_or, length-append, length-take, get_or-append}
+use lib.Seq.{get_or-append-add}
 use lib.Pow.{pow_pos, pow_mono, pow-lt}
 use lib.Arith.{mod-mul}
 use lib.Dec.{eqb}
