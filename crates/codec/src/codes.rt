@@ -9,7 +9,7 @@ ghost use Rattle.codec.specs.Inside.Writers.{Ready, Wrote, CodewordOf, SplitOf};
 use crate::bits::BitWriter;
 use crate::source::Source;
 
-// A value and the bit place behind its code. A reader answers none where no value is coded that a set needs.
+// A value and the bit place behind its code. A reader answers none where the bits code no value that a set can have.
 #[derive(Clone, Copy)]
 pub(crate) struct ReadCode {
     pub(crate) value: u32,
@@ -35,7 +35,7 @@ pub(crate) fn low_at(bytes: &[u8], at: usize, b: usize) -> Option<ReadCode>
 }
 
 // The value of the gamma code at bit place `at`. The loop yields how many zeros stand before a one, or
-// none where the bits end first.
+// none where the bits end first: the specification names this form.
 pub(crate) fn read_gamma(bytes: &[u8], at: usize) -> Option<ReadCode>
     requires { length bytes.now < 2 ^ 60 }
     ensures { ReadCodeAt read_gamma bytes.now at result }

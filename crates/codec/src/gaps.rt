@@ -89,6 +89,7 @@ fn skip_present(set: ColorSet, c: Cursor) -> usize
 impl CodedIds for Present {
     ghost dense = { false };
 
+    // In each loop over coded ids, as is `skip_present`: a call of its own slows them.
     #[inline(always)]
     fn next_id(set: ColorSet, c: Cursor) -> Option<NextId> {
         if set.ids.len() <= c.i {
@@ -108,6 +109,7 @@ impl CodedIds for Present {
 impl CodedIds for Absent {
     ghost dense = { true };
 
+    // As of `Present`.
     #[inline(always)]
     fn next_id(set: ColorSet, c: Cursor) -> Option<NextId> {
         let k = skip_present(set, c);

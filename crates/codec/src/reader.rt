@@ -1,5 +1,5 @@
 // The outer edge of the record reader: a payload and a bit place in it, over the readers of `codes`. The form is
-// settled: a reader here, and plain parameters in the core, which therefore takes no `BitReader`.
+// the specification's: a reader here, and plain parameters in the core, which therefore takes no `BitReader`.
 ghost use Rattle.std.specs.Prelude.{◌≡◌, ◌<◌, ◌^◌, length};
 ghost use Rattle.codec.specs.Codes.{read_delta};
 ghost use Rattle.codec.specs.Inside.Places.{ReadCodeAt};

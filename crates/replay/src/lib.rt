@@ -103,7 +103,7 @@ impl Call {
     }
 }
 
-// What the tape tells of an answer: a refusal's number, or 0.
+// What the tape tells of an answer: a refusal's number, or 0. The tape's form has a number for each call in two lists.
 fn refusal_of(a: Result<u64, Refusal>) -> u32
     ensures { result ≡ refusal_of (of_answer a) }
 {
@@ -144,7 +144,8 @@ fn head_at(calls: &[u32], i: usize) -> Head
     }
 }
 
-// One call, with an output of as many places as it is lent.
+// One call, with an output of as many places as it is lent. The buffers are lent one by one, as the public call gets
+// them: of a struct behind a `&mut` no two could be lent beside one another.
 fn one(
     s: Store,
     call: Call,

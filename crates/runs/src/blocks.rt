@@ -21,7 +21,7 @@ impl<'a> Blocks<'a> {
     ghost use Rattle.runs.specs.Colours.{colour_at};
     ghost use Rattle.runs.specs.Inside.Blocks.{runs_of, IsRead};
 
-    // The list at the front of the bytes: 4 or 5 of its count, 4.
+    // The list at the front of the bytes. Refusals: 4 or 5 of its count, then 4 where the runs end too early.
     pub(crate) fn read(bytes: &'a [u8]) -> Result<Blocks<'a>, Refusal>
         ensures { IsRead bytes.now result }
     {

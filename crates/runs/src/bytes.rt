@@ -92,7 +92,7 @@ pub fn read_unitig_color_runs(bytes: &[u8], out: &mut [u64]) -> Result<Given, Re
     })
 }
 
-// The coordinate of a vertex by the list at the front of `bytes`, which has to be sharp for n vertices: 14, then 4, 5, 6.
+// The coordinate of a vertex by the list at the front of `bytes`, which has to be sharp for n vertices. Refusals 14, then 4, 5, 6, in this order.
 pub fn sharp_color_at(bytes: &[u8], n: u32, vertex: u32) -> Result<u64, Refusal>
     ensures { of_colored result ≡ sharp_colour n vertex bytes.now }
 {

@@ -104,7 +104,7 @@ pub fn is_sharp(runs: &[u64], n: u32) -> bool
     are_sharp(&runs, n)
 }
 
-// That reverse and rotate take the list: 7, 6.
+// Whether reverse and rotate take the list: 7, a vertex count above its limit, then 6, not steady.
 pub(crate) fn check_steady(runs: &[u64], n: u32) -> Result<(), Refusal>
     ensures { MatchResult result (λ _. Taken n runs.now) (IsTurnedDown n runs.now) }
 {

@@ -26,7 +26,7 @@ pub struct Lengths {
 }
 
 impl Lengths {
-    // The buffers stay parameters of their own, here and in each call: which of them a call may write differs from call
+    // How long these buffers are. They stay parameters of their own, here and in each call: which of them a call may write differs from call
     // to call, and a struct of them all, lent to be written, would ask more of callers.
     pub(crate) fn of(
         records: &[u8],

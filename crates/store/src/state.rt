@@ -27,7 +27,8 @@ pub enum Way {
     Cycle { pivot: u32 },
 }
 
-// The last accepted call with its arguments, but for the ids of an add and the runs of a join.
+// The last accepted call with its arguments, but for the ids of an add and the runs of a join. The form is the
+// specification's, as `Current`.
 #[derive(Clone, Copy, Debug, Default, PartialEq, Eq)]
 pub enum Last {
     #[default]
