@@ -1,8 +1,9 @@
-// How an answer crosses to C.
+// How an answer crosses to C: a refusal as its number, and each value of a success in the number lent for it.
 ghost use Rattle.std.specs.Prelude.{◌≡◌};
-ghost use Rattle.capi.specs.Exports.{code_of};
+ghost use Rattle.base.specs.Answers.{of_written, of_given};
+ghost use Rattle.capi.specs.Exports.{code, code_of, value};
 
-use base::Refusal;
+use base::{Given, Refusal};
 
 // 0, or the number of the refusal.
 pub(crate) fn code_of<T: Drop>(answer: Result<T, Refusal>) -> u32
@@ -12,4 +13,25 @@ pub(crate) fn code_of<T: Drop>(answer: Result<T, Refusal>) -> u32
         Ok(_) => 0,
         Err(r) => u32::from(r),
     }
+}
+
+// An answer of one number.
+pub(crate) fn tell(answer: Result<usize, Refusal>, told: &mut u64) -> u32
+    ensures { (result ≡ code (of_written answer)) × (told.new ≡ value 0 (of_written answer) told.old) }
+{
+    if let Ok(n) = answer {
+        *told = n as u64;
+    }
+    code_of(answer)
+}
+
+// An answer of two: items given, and bytes taken.
+pub(crate) fn tell_given(answer: Result<Given, Refusal>, given: &mut u64, taken: &mut u64) -> u32
+    ensures { (result ≡ code (of_given answer)) × (given.new ≡ value 0 (of_given answer) given.old) × (taken.new ≡ value 1 (of_given answer) taken.old) }
+{
+    if let Ok(read) = answer {
+        *given = read.items as u64;
+        *taken = read.bytes as u64;
+    }
+    code_of(answer)
 }

@@ -4,17 +4,13 @@ ghost use Rattle.codec.specs.Records.{write_record, read_into};
 ghost use Rattle.codec.specs.Index.{make_index};
 ghost use Rattle.capi.specs.Exports.{plain, one, two};
 
-use crate::answers::code_of;
+use crate::answers::{code_of, tell, tell_given};
 
 // The record of a set to the front of `out`; `written` bytes.
 pub fn rf_write_record(n: u32, ids: &[u32], out: &mut [u8], written: &mut u64) -> u32
     ensures { (result, written.new, out.new) ≡ one (write_record n ids.now out.old) written.old }
 {
-    let answer = codec::records::write_color_record(n, ids, out);
-    if let Ok(len) = answer {
-        *written = len as u64;
-    }
-    code_of(answer)
+    tell(codec::records::write_color_record(n, ids, out), written)
 }
 
 // The set at the front of `input` to the front of `ids`; `given` ids, from `taken` bytes.
@@ -27,12 +23,11 @@ pub fn rf_read_record(
 ) -> u32
     ensures { (result, given.new, taken.new, ids.new) ≡ two (read_into n input.now ids.old) given.old taken.old }
 {
-    let answer = codec::records::read_color_record(n, input, ids);
-    if let Ok(read) = answer {
-        *given = read.items as u64;
-        *taken = read.bytes as u64;
-    }
-    code_of(answer)
+    tell_given(
+        codec::records::read_color_record(n, input, ids),
+        given,
+        taken,
+    )
 }
 
 // Where each of the first `count` records begins, and where the last one ends.

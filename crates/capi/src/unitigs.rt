@@ -7,28 +7,20 @@ ghost use Rattle.runs.specs.Rotate.{rotate_into};
 ghost use Rattle.runs.specs.Bytes.{write_runs, read_runs_into};
 ghost use Rattle.capi.specs.Exports.{one, two};
 
-use crate::answers::code_of;
+use crate::answers::{code_of, tell, tell_given};
 
 // The list of the same colours from the other end; `count` runs.
 pub fn rf_reverse_runs(runs: &[u64], n: u32, out: &mut [u64], count: &mut u64) -> u32
     ensures { (result, count.new, out.new) ≡ one (reverse_into runs.now n out.old) count.old }
 {
-    let answer = runs::reverse::reverse_color_runs(runs, n, out);
-    if let Ok(len) = answer {
-        *count = len as u64;
-    }
-    code_of(answer)
+    tell(runs::reverse::reverse_color_runs(runs, n, out), count)
 }
 
 // The same in the place of the list itself.
 pub fn rf_reverse_runs_in_place(runs: &mut [u64], n: u32, count: &mut u64) -> u32
     ensures { (result, count.new, runs.new) ≡ one (reverse_in_place runs.old n) count.old }
 {
-    let answer = runs::reverse::reverse_color_runs_in_place(runs, n);
-    if let Ok(len) = answer {
-        *count = len as u64;
-    }
-    code_of(answer)
+    tell(runs::reverse::reverse_color_runs_in_place(runs, n), count)
 }
 
 // A piece behind the `used` runs of an output of `out_count` vertices; the piece's first vertex is the
@@ -71,32 +63,26 @@ pub fn rf_rotate_runs(
 ) -> u32
     ensures { (result, count.new, out.new) ≡ one (rotate_into runs.now n pivot reverse out.old) count.old }
 {
-    let answer = runs::rotate::rotate_cycle_color_runs(runs, n, pivot, reverse, out);
-    if let Ok(len) = answer {
-        *count = len as u64;
-    }
-    code_of(answer)
+    tell(
+        runs::rotate::rotate_cycle_color_runs(runs, n, pivot, reverse, out),
+        count,
+    )
 }
 
 // The run bytes of a list; `written` bytes.
 pub fn rf_write_runs(runs: &[u64], out: &mut [u8], written: &mut u64) -> u32
     ensures { (result, written.new, out.new) ≡ one (write_runs runs.now out.old) written.old }
 {
-    let answer = runs::bytes::write_unitig_color_runs(runs, out);
-    if let Ok(len) = answer {
-        *written = len as u64;
-    }
-    code_of(answer)
+    tell(runs::bytes::write_unitig_color_runs(runs, out), written)
 }
 
 // The list whose run bytes stand at the front; `given` runs, from `taken` bytes.
 pub fn rf_read_runs(bytes: &[u8], out: &mut [u64], given: &mut u64, taken: &mut u64) -> u32
     ensures { (result, given.new, taken.new, out.new) ≡ two (read_runs_into bytes.now out.old) given.old taken.old }
 {
-    let answer = runs::bytes::read_unitig_color_runs(bytes, out);
-    if let Ok(read) = answer {
-        *given = read.items as u64;
-        *taken = read.bytes as u64;
-    }
-    code_of(answer)
+    tell_given(
+        runs::bytes::read_unitig_color_runs(bytes, out),
+        given,
+        taken,
+    )
 }
