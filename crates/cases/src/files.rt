@@ -1,7 +1,7 @@
 // Record files of the reference, each beside each: whether the one is the beginning of the other, in bytes and in sets.
 // A line of the file `files` is a record file: its colour count, how many sets it holds, how many bytes, the bytes, and the
 // sets, each as its length and its ids. The work grows with the square of the lines.
-use crate::numbers::{Fault, list_of, narrowed, numbers_of, readable};
+use crate::numbers::{MOST_ITEMS, Narrow, fitting, list_of, numbers_of};
 use capi::records;
 use std::alloc::{AllocError, Global};
 use std::io;
@@ -26,39 +26,45 @@ impl Pair {
 
 #[derive(Debug, Drop)]
 struct File {
-    colors: u32,
+    colors: u64,
     count: u64,
-    bytes: Vec<u8>,
+    // Each byte as a number.
+    bytes: Vec<u64>,
     // The sets, each as its length and its ids.
     sets: Vec<u64>,
 }
 
 impl File {
-    fn of(alloc: Global, line: &str) -> Result<File, Fault> {
+    // The file of a line, none where the line can't be read.
+    fn of(alloc: Global, line: &[u8]) -> Result<Option<File>, AllocError> {
         let numbers = numbers_of(alloc, line)?;
         let [colors, count, rest @ ..] = numbers.as_slice() else {
-            return Err(Fault::Cut);
+            return Ok(None);
         };
-        let (bytes, sets) = list_of(rest)?;
-        Ok(File {
-            colors: u32::try_from(*colors)?,
+        let Some((bytes, sets)) = list_of(rest) else {
+            return Ok(None);
+        };
+        Ok(Some(File {
+            colors: *colors,
             count: *count,
-            bytes: narrowed(alloc, bytes)?,
+            bytes: bytes.to_vec(alloc)?,
             sets: sets.to_vec(alloc)?,
-        })
+        }))
     }
 
-    // Whether the bytes, read as so many records, are the sets, with nothing left over.
-    fn reads_back(&self, alloc: Global) -> Result<bool, AllocError> {
-        let mut ids = vec![in alloc; 0u32; self.sets.len()]?;
+    // So many sets, read one after another, as many as can be read; bytes behind them count as one set more.
+    fn read_sets(&self, alloc: Global) -> Result<Vec<u64>, AllocError> {
+        let colors = u32::of(self.colors);
+        let bytes: Vec<u8> = fitting(alloc, &self.bytes)?;
+        let mut ids = vec![in alloc; 0u32; MOST_ITEMS]?;
         let mut sets = Vec::new(alloc);
-        let mut rest = self.bytes.as_slice();
+        let mut rest = bytes.as_slice();
         for _ in 0..self.count {
             let mut given = 0;
             let mut taken = 0;
-            let code = records::rf_read_record(self.colors, rest, &mut ids, &mut given, &mut taken);
+            let code = records::rf_read_record(colors, rest, &mut ids, &mut given, &mut taken);
             if code != 0 {
-                return Ok(false);
+                return Ok(sets);
             }
             sets.push(given)?;
             for id in ids.iter().take(given as usize) {
@@ -66,7 +72,10 @@ impl File {
             }
             rest = rest.get(taken as usize..).unwrap_or(&[]);
         }
-        Ok(rest.is_empty() && sets == self.sets)
+        if !rest.is_empty() {
+            sets.push(0)?;
+        }
+        Ok(sets)
     }
 
     // What it shows beside another.
@@ -88,11 +97,11 @@ impl File {
     }
 }
 
-// The file of each line, none where the line can't be read.
-fn files_of(alloc: Global, text: &str) -> Result<Vec<Option<File>>, AllocError> {
+// The file of each line.
+fn files_of(alloc: Global, text: &[u8]) -> Result<Vec<Option<File>>, AllocError> {
     let mut files = Vec::new(alloc);
-    for line in text.lines() {
-        files.push(readable(File::of(alloc, line))?)?;
+    for line in text.split_inclusive(|byte| *byte == b'\n') {
+        files.push(File::of(alloc, line)?)?;
     }
     Ok(files)
 }
@@ -102,7 +111,7 @@ fn misread(alloc: Global, files: &[Option<File>]) -> Result<u64, AllocError> {
     let mut misread = 0u64;
     for file in files {
         let good = match file {
-            Some(file) => file.reads_back(alloc)?,
+            Some(file) => file.read_sets(alloc)? == file.sets,
             None => false,
         };
         if !good {
@@ -131,7 +140,7 @@ fn count_of(pairs: &[Pair], kind: Pair) -> usize {
 }
 
 // Every file: that it is read back, and what it shows beside every one.
-pub(crate) fn compare_all(rt: &impl Print, alloc: Global, text: &str) -> io::Result<()> {
+pub(crate) fn compare_all(rt: &impl Print, alloc: Global, text: &[u8]) -> io::Result<()> {
     let files = files_of(alloc, text)?;
     let misread = misread(alloc, &files)?;
     let pairs = pairs_of(alloc, &files)?;

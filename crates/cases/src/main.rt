@@ -8,12 +8,26 @@ mod recorded; // a recorded call, and what it must answer
 mod operations; // the call of each operation
 mod files; // which record file is the beginning of which
 
+use shell::inputs;
+use std::alloc::Global;
+use std::rt::Files;
 use std::{fs, io};
+
+// How many bytes of a file are read.
+const MOST_BYTES: usize = 262144;
+
+fn read_file(rt: &impl Files, alloc: Global, name: &str) -> io::Result<Vec<u8>> {
+    let mut text = vec![in alloc; 0u8; MOST_BYTES]?;
+    let mut file = fs::open(rt, name)?;
+    let count = inputs::read_full(&mut file, &mut text)?;
+    text.truncate(count);
+    Ok(text)
+}
 
 fn main(rt: HostRuntime) -> io::Result<()> {
     let alloc = rt.alloc();
-    let answers = fs::read_to_string(&rt, "answers")?;
-    recorded::replay_all(&rt, alloc, answers.as_str())?;
-    let files = fs::read_to_string(&rt, "files")?;
-    files::compare_all(&rt, alloc, files.as_str())
+    let answers = read_file(&rt, alloc, "answers")?;
+    recorded::replay_all(&rt, alloc, &answers)?;
+    let files = read_file(&rt, alloc, "files")?;
+    files::compare_all(&rt, alloc, &files)
 }

@@ -1,50 +1,63 @@
 // The call of each operation, over outputs that hold 165 at each place.
-use crate::numbers::{Fault, narrowed};
+use crate::numbers::fitting;
 use crate::recorded::{Answer, Operation, Recorded};
 use capi::{records, unitigs};
-use std::alloc::Global;
+use std::alloc::{AllocError, Global};
 
-fn write_record(alloc: Global, line: &Recorded<'_>, colors: u32) -> Result<bool, Fault> {
-    let ids: Vec<u32> = narrowed(alloc, line.input)?;
+fn write_record(alloc: Global, line: &Recorded<'_>, colors: u32) -> Result<bool, AllocError> {
+    let ids: Vec<u32> = fitting(alloc, line.input)?;
     let mut out: Vec<u8> = line.holding(alloc, &[])?;
     let mut answer = Answer::default();
-    answer.code = records::rf_write_record(colors, &ids, &mut out, &mut answer.given);
+    answer.code = records::rf_write_record(colors, &ids, line.lent(&mut out), &mut answer.given);
     Ok(line.agrees(answer, &out))
 }
 
-fn read_record(alloc: Global, line: &Recorded<'_>, colors: u32) -> Result<bool, Fault> {
-    let bytes: Vec<u8> = narrowed(alloc, line.input)?;
+fn read_record(alloc: Global, line: &Recorded<'_>, colors: u32) -> Result<bool, AllocError> {
+    let bytes: Vec<u8> = fitting(alloc, line.input)?;
     let mut out: Vec<u32> = line.holding(alloc, &[])?;
     let mut answer = Answer::default();
     answer.code = records::rf_read_record(
         colors,
         &bytes,
-        &mut out,
+        line.lent(&mut out),
         &mut answer.given,
         &mut answer.more,
     );
     Ok(line.agrees(answer, &out))
 }
 
-fn make_index(alloc: Global, line: &Recorded<'_>, count: u64) -> Result<bool, Fault> {
-    let bytes: Vec<u8> = narrowed(alloc, line.input)?;
+fn make_index(alloc: Global, line: &Recorded<'_>, count: u64) -> Result<bool, AllocError> {
+    let bytes: Vec<u8> = fitting(alloc, line.input)?;
     let mut out: Vec<u64> = line.holding(alloc, &[])?;
     let mut answer = Answer::default();
-    answer.code = records::rf_make_index(&bytes, count, &mut out);
+    answer.code = records::rf_make_index(&bytes, count, line.lent(&mut out));
     Ok(line.agrees(answer, &out))
 }
 
-fn reverse_runs(alloc: Global, line: &Recorded<'_>, vertices: u32) -> Result<bool, Fault> {
+fn reverse_runs(alloc: Global, line: &Recorded<'_>, vertices: u32) -> Result<bool, AllocError> {
     let mut out: Vec<u64> = line.holding(alloc, &[])?;
     let mut answer = Answer::default();
-    answer.code = unitigs::rf_reverse_runs(line.input, vertices, &mut out, &mut answer.given);
+    answer.code = unitigs::rf_reverse_runs(
+        line.input,
+        vertices,
+        line.lent(&mut out),
+        &mut answer.given,
+    );
     Ok(line.agrees(answer, &out))
 }
 
-fn reverse_runs_in_place(alloc: Global, line: &Recorded<'_>, vertices: u32) -> Result<bool, Fault> {
+fn reverse_runs_in_place(
+    alloc: Global,
+    line: &Recorded<'_>,
+    vertices: u32,
+) -> Result<bool, AllocError> {
     let mut runs: Vec<u64> = line.holding(alloc, line.input)?;
     let mut answer = Answer::default();
-    answer.code = unitigs::rf_reverse_runs_in_place(&mut runs, vertices, &mut answer.given);
+    answer.code = unitigs::rf_reverse_runs_in_place(
+        line.lent(&mut runs),
+        vertices,
+        &mut answer.given,
+    );
     Ok(line.agrees(answer, &runs))
 }
 
@@ -56,15 +69,15 @@ fn append_runs(
     piece: u32,
     reversed: bool,
     used: u64,
-) -> Result<bool, Fault> {
+) -> Result<bool, AllocError> {
     let (held, runs) = line
         .input
-        .split_at_checked(usize::try_from(used)?)
+        .split_at_checked(used as usize)
         .unwrap_or((line.input, &[]));
     let mut out: Vec<u64> = line.holding(alloc, held)?;
     let mut answer = Answer::default();
     answer.code = unitigs::rf_append_runs(
-        &mut out,
+        line.lent(&mut out),
         used,
         vertices,
         runs,
@@ -82,7 +95,7 @@ fn rotate_runs(
     vertices: u32,
     pivot: u32,
     reversed: bool,
-) -> Result<bool, Fault> {
+) -> Result<bool, AllocError> {
     let mut out: Vec<u64> = line.holding(alloc, &[])?;
     let mut answer = Answer::default();
     answer.code = unitigs::rf_rotate_runs(
@@ -90,29 +103,34 @@ fn rotate_runs(
         vertices,
         pivot,
         reversed,
-        &mut out,
+        line.lent(&mut out),
         &mut answer.given,
     );
     Ok(line.agrees(answer, &out))
 }
 
-fn write_runs(alloc: Global, line: &Recorded<'_>) -> Result<bool, Fault> {
+fn write_runs(alloc: Global, line: &Recorded<'_>) -> Result<bool, AllocError> {
     let mut out: Vec<u8> = line.holding(alloc, &[])?;
     let mut answer = Answer::default();
-    answer.code = unitigs::rf_write_runs(line.input, &mut out, &mut answer.given);
+    answer.code = unitigs::rf_write_runs(line.input, line.lent(&mut out), &mut answer.given);
     Ok(line.agrees(answer, &out))
 }
 
-fn read_runs(alloc: Global, line: &Recorded<'_>) -> Result<bool, Fault> {
-    let bytes: Vec<u8> = narrowed(alloc, line.input)?;
+fn read_runs(alloc: Global, line: &Recorded<'_>) -> Result<bool, AllocError> {
+    let bytes: Vec<u8> = fitting(alloc, line.input)?;
     let mut out: Vec<u64> = line.holding(alloc, &[])?;
     let mut answer = Answer::default();
-    answer.code = unitigs::rf_read_runs(&bytes, &mut out, &mut answer.given, &mut answer.more);
+    answer.code = unitigs::rf_read_runs(
+        &bytes,
+        line.lent(&mut out),
+        &mut answer.given,
+        &mut answer.more,
+    );
     Ok(line.agrees(answer, &out))
 }
 
 // Whether the call of a line is answered as the line says.
-pub(crate) fn agrees(alloc: Global, line: &Recorded<'_>) -> Result<bool, Fault> {
+pub(crate) fn agrees(alloc: Global, line: &Recorded<'_>) -> Result<bool, AllocError> {
     match line.operation {
         Operation::WriteRecord { colors } => write_record(alloc, line, colors),
         Operation::ReadRecord { colors } => read_record(alloc, line, colors),

@@ -1,11 +1,10 @@
 // A recorded call, and what it must answer.
 ghost use Rattle.std.specs.Prelude.{◌≡◌, IfOk, vec_len};
 
-use crate::numbers::{Fault, list_of, narrowed, numbers_of, readable};
+use crate::numbers::{MOST_ITEMS, Narrow, fitting, list_of, numbers_of};
 use crate::operations;
-use std::alloc::Global;
+use std::alloc::{AllocError, Global};
 use std::io;
-use std::num::TryFromIntError;
 
 // What every place of an output holds before the call, so that a change shows.
 pub(crate) const FILL: u8 = 165;
@@ -45,35 +44,35 @@ pub(crate) enum Operation {
 
 impl Operation {
     // The operation that the first five numbers of a line name: its own number, and the numbers that it takes.
-    fn of(numbers: &[u64]) -> Result<Self, Fault> {
-        Ok(match numbers {
+    fn of(numbers: &[u64]) -> Option<Self> {
+        Some(match numbers {
             [1, colors, ..] => Operation::WriteRecord {
-                colors: u32::try_from(*colors)?,
+                colors: u32::of(*colors),
             },
             [2, colors, ..] => Operation::ReadRecord {
-                colors: u32::try_from(*colors)?,
+                colors: u32::of(*colors),
             },
             [3, count, ..] => Operation::MakeIndex { count: *count },
             [4, vertices, ..] => Operation::ReverseRuns {
-                vertices: u32::try_from(*vertices)?,
+                vertices: u32::of(*vertices),
             },
             [5, vertices, ..] => Operation::ReverseRunsInPlace {
-                vertices: u32::try_from(*vertices)?,
+                vertices: u32::of(*vertices),
             },
             [6, vertices, piece, reversed, used] => Operation::AppendRuns {
-                vertices: u32::try_from(*vertices)?,
-                piece: u32::try_from(*piece)?,
+                vertices: u32::of(*vertices),
+                piece: u32::of(*piece),
                 reversed: *reversed == 1,
                 used: *used,
             },
             [7, vertices, pivot, reversed, ..] => Operation::RotateRuns {
-                vertices: u32::try_from(*vertices)?,
-                pivot: u32::try_from(*pivot)?,
+                vertices: u32::of(*vertices),
+                pivot: u32::of(*pivot),
                 reversed: *reversed == 1,
             },
             [8, ..] => Operation::WriteRuns,
             [9, ..] => Operation::ReadRuns,
-            _ => return Err(Fault::Operation),
+            _ => return None,
         })
     }
 }
@@ -97,22 +96,22 @@ pub(crate) struct Recorded<'a> {
 }
 
 impl<'a> Recorded<'a> {
-    fn of(numbers: &'a [u64]) -> Result<Self, Fault> {
-        let (call, rest) = numbers.split_at_checked(5).ok_or(Fault::Cut)?;
+    fn of(numbers: &'a [u64]) -> Option<Self> {
+        let (call, rest) = numbers.split_at_checked(5)?;
         let [space, code, given, more, lists @ ..] = rest else {
-            return Err(Fault::Cut);
+            return None;
         };
         let (input, rest) = list_of(lists)?;
         let (output, rest) = list_of(rest)?;
         if !rest.is_empty() {
-            return Err(Fault::Extra);
+            return None;
         }
-        Ok(Recorded {
+        Some(Recorded {
             operation: Operation::of(call)?,
             input,
-            space: usize::try_from(*space)?,
+            space: *space as usize,
             answer: Answer {
-                code: u32::try_from(*code)?,
+                code: u32::try_from(*code).ok()?,
                 given: *given,
                 more: *more,
             },
@@ -120,15 +119,21 @@ impl<'a> Recorded<'a> {
         })
     }
 
-    // An output of as many places as are lent, which holds these items from its front.
-    pub fn holding<T>(&self, alloc: Global, items: &[u64]) -> Result<Vec<T>, Fault>
+    // An output that holds these items from its front.
+    pub fn holding<T>(&self, alloc: Global, items: &[u64]) -> Result<Vec<T>, AllocError>
     where
-        T: TryFrom<u64, Error = TryFromIntError> + From<u8> + Copy,
-        ensures { IfOk result (λ places. vec_len places ≡ self.now.space) }
+        T: Narrow + From<u8>,
+        ensures { IfOk result (λ places. vec_len places ≡ 2048) }
     {
-        let mut places = narrowed(alloc, items)?;
-        places.resize(self.space, T::from(FILL))?;
+        let mut places = fitting(alloc, items)?;
+        places.resize(MOST_ITEMS, T::from(FILL))?;
         Ok(places)
+    }
+
+    // As many places of an output as are lent, or all where it has fewer.
+    pub fn lent<'b, T>(&self, output: &'b mut [T]) -> &'b mut [T] {
+        let end = self.space.min(output.len());
+        &mut output[..end]
     }
 
     // Whether the answer is the one of the line, and the output holds what it says, with nothing altered behind it.
@@ -151,22 +156,24 @@ impl<'a> Recorded<'a> {
 }
 
 // Whether the call of a line is answered as the line says. A line that can't be read is not.
-fn agrees(alloc: Global, line: &str) -> Result<bool, Fault> {
+fn agrees(alloc: Global, line: &[u8]) -> Result<bool, AllocError> {
     let numbers = numbers_of(alloc, line)?;
-    operations::agrees(alloc, &Recorded::of(numbers.as_slice())?)
+    match Recorded::of(numbers.as_slice()) {
+        Some(line) => operations::agrees(alloc, &line),
+        None => Ok(false),
+    }
 }
 
 // The call of each line.
-pub(crate) fn replay_all(rt: &impl Print, alloc: Global, text: &str) -> io::Result<()> {
+pub(crate) fn replay_all(rt: &impl Print, alloc: Global, text: &[u8]) -> io::Result<()> {
+    let mut lines = 0u64;
     let mut differ = 0u64;
-    for (number, line) in (1u64..).zip(text.lines()) {
-        if readable(agrees(alloc, line))? != Some(true) {
+    for line in text.split_inclusive(|byte| *byte == b'\n') {
+        lines = lines.saturating_add(1);
+        if !agrees(alloc, line)? {
             differ = differ.saturating_add(1);
-            println!(rt; "differs: line {number}")?;
+            println!(rt; "differs: line {lines}")?;
         }
     }
-    println!(rt;
-        "{} recorded answers, {differ} differ",
-        text.lines().count()
-    )
+    println!(rt; "{lines} recorded answers, {differ} differ")
 }

@@ -1,6 +1,31 @@
 // A session as its four lines say it.
 use shell::lists::Word;
+use shell::words::Words;
 use std::alloc::{AllocError, Global};
+
+// How many bytes a record file or a run file has at most, and how many words another buffer.
+const MOST_BYTES: usize = 65536;
+
+const MOST_WORDS: usize = 8192;
+
+// How many numbers the calls have at most, six for each of 4,096 calls, and how many ids and runs there are.
+const MOST_NUMBERS: usize = 24576;
+
+const MOST_ITEMS: usize = 65536;
+
+// The eight numbers of the first line. What a session's line doesn't say is as the session before left it.
+#[derive(Clone, Copy, Debug, Default)]
+pub(crate) struct Head {
+    numbers: [u32; 8],
+}
+
+impl Head {
+    // The words of the first line, up to one that can't be read, or the eighth.
+    pub fn read(&mut self, lines: &[&[u8]]) {
+        let line = lines.first().copied().unwrap_or(b"");
+        let _ = Words::of(line).values(&mut self.numbers);
+    }
+}
 
 // How long each buffer is.
 #[derive(Clone, Copy, Debug)]
@@ -26,37 +51,36 @@ pub(crate) struct Session {
     pub pieces: Vec<u64>,
 }
 
-// What the words of a line say. A line that isn't there, or can't be read, has nothing.
-fn list<T: Word + Drop>(alloc: Global, line: Option<&&str>) -> Result<Vec<T>, AllocError> {
+// What the words of a line say. A line that isn't there, can't be read, or says more than `most` has nothing.
+fn list<T>(alloc: Global, line: Option<&&[u8]>, most: usize) -> Result<Vec<T>, AllocError>
+where
+    T: Word + From<u8>,
+{
     let mut items = Vec::new(alloc);
-    for word in line.map_or("", |line| *line).split_ascii_whitespace() {
-        let Ok(item) = T::read(word.as_bytes()) else {
-            return Ok(Vec::new(alloc));
-        };
-        items.push(item)?;
-    }
+    items.resize(most, T::from(0))?;
+    let line = line.copied().unwrap_or(b"");
+    let count = Words::of(line).values(&mut items).unwrap_or(0);
+    items.truncate(count);
     Ok(items)
 }
 
 impl Session {
-    pub fn of(alloc: Global, lines: &[&str]) -> Result<Self, AllocError> {
-        let head: Vec<u32> = list(alloc, lines.first())?;
-        let number = |place: usize| head.get(place).copied().unwrap_or(0);
-        let length = |place: usize| number(place) as usize;
+    pub fn of(alloc: Global, head: &Head, lines: &[&[u8]]) -> Result<Self, AllocError> {
+        let [colors, worker, records, index, opened, held, runs, table] = head.numbers;
         Ok(Session {
-            colors: number(0),
-            worker: number(1),
+            colors,
+            worker,
             lengths: Lengths {
-                records: length(2),
-                index: length(3),
-                opened: length(4),
-                held: length(5),
-                runs: length(6),
-                table: length(7),
+                records: MOST_BYTES.min(records as usize),
+                index: MOST_WORDS.min(index as usize),
+                opened: MOST_WORDS.min(opened as usize),
+                held: MOST_WORDS.min(held as usize),
+                runs: MOST_BYTES.min(runs as usize),
+                table: MOST_WORDS.min(table as usize),
             },
-            calls: list(alloc, lines.get(1))?,
-            ids: list(alloc, lines.get(2))?,
-            pieces: list(alloc, lines.get(3))?,
+            calls: list(alloc, lines.get(1), MOST_NUMBERS)?,
+            ids: list(alloc, lines.get(2), MOST_ITEMS)?,
+            pieces: list(alloc, lines.get(3), MOST_ITEMS)?,
         })
     }
 }
