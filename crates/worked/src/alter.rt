@@ -77,7 +77,7 @@ impl Bench {
     // put BUFFER PLACE VALUE
     pub(crate) fn put(&mut self, mut words: Words<'_>) -> Result<Reply, StepError> {
         let buffer = words.next().ok_or(Fault::Missing)?;
-        let place = size(&mut words)?;
+        let place = size(&mut words).unwrap_or(0);
         let value = wide(&mut words)?;
         let byte = (value & 0xff) as u8;
         let b = &mut self.state.buffers;

@@ -1,24 +1,33 @@
 // The words of a step as its arguments.
-use crate::buffers::WORDS;
+use crate::buffers::{BYTES, WORDS};
 use shell::hexes;
 use shell::lists::Word;
 use shell::reasons::Fault;
 use shell::words::Words;
 use std::alloc::{AllocError, Global};
-use thiserror::Error;
 
 // Why a step has no answer.
-#[derive(Debug, Drop, Error)]
+#[derive(Debug, Drop)]
 pub(crate) enum StepError {
     // It isn't written as a step.
-    #[error("no such step")]
-    Words(#[from] Fault),
-    #[error(transparent)]
-    Memory(#[from(alloc)] AllocError),
+    Words(Fault),
+    Memory(AllocError),
+}
+
+impl From<Fault> for StepError {
+    fn from(fault: Fault) -> Self {
+        StepError::Words(fault)
+    }
+}
+
+impl From<AllocError> for StepError {
+    fn from(error: AllocError) -> Self {
+        StepError::Memory(error)
+    }
 }
 
 // The number that stands next, or the run OFFSET:COORDINATE as one number of 64 bits.
-pub(crate) fn wide(words: &mut Words<'_>) -> Result<u64, Fault> {
+fn next_wide(words: &mut Words<'_>) -> Result<u64, Fault> {
     let mut ahead = *words;
     if let Ok(Some(run)) = ahead.value::<u64>() {
         *words = ahead;
@@ -26,6 +35,16 @@ pub(crate) fn wide(words: &mut Words<'_>) -> Result<u64, Fault> {
     }
     let number: Option<u32> = words.value()?;
     Ok(u64::from(number.ok_or(Fault::Missing)?))
+}
+
+// The same. Where there is none, the next number is read from the step's first word again. Only its last number says whether a step is one: for
+// any other that can't be read 0 is taken.
+pub(crate) fn wide(words: &mut Words<'_>) -> Result<u64, Fault> {
+    let number = next_wide(words);
+    if number.is_err() {
+        words.at = 0;
+    }
+    number
 }
 
 // The same, cut to 32 bits.
@@ -60,10 +79,10 @@ where
     Ok(items)
 }
 
-// The bytes that the next word says in hexadecimal; none where it doesn't.
+// The bytes that the next word says in hexadecimal; none where it doesn't, or says too many.
 pub(crate) fn bytes(alloc: Global, words: &mut Words<'_>) -> Result<Vec<u8>, AllocError> {
     let text = words.next().unwrap_or(b"");
-    let mut bytes = vec![in alloc; 0u8; text.len()]?;
+    let mut bytes = vec![in alloc; 0u8; BYTES]?;
     let count = hexes::unhex(text, &mut bytes).unwrap_or(0);
     bytes.truncate(count);
     Ok(bytes)

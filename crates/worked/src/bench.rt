@@ -4,6 +4,7 @@ use crate::buffers::{Buffer, EIGHT, WORDS};
 use crate::files;
 use crate::replies::Reply;
 use crate::state::State;
+use shell::fields::part;
 use shell::reasons::Fault;
 use shell::words::Words;
 use std::alloc::{AllocError, Global};
@@ -29,8 +30,8 @@ impl Bench {
         })
     }
 
-    pub fn step(&mut self, step: &str) -> Result<(), AllocError> {
-        self.reply = match self.answer(Words::of(step.as_bytes())) {
+    pub fn step(&mut self, step: &[u8]) -> Result<(), AllocError> {
+        self.reply = match self.answer(step) {
             Ok(reply) => reply,
             Err(StepError::Words(_)) => Reply::NoStep,
             Err(StepError::Memory(e)) => return Err(e),
@@ -39,14 +40,16 @@ impl Bench {
     }
 
     // A step by its first word.
-    fn answer(&mut self, mut words: Words<'_>) -> Result<Reply, StepError> {
+    fn answer(&mut self, step: &[u8]) -> Result<Reply, StepError> {
+        let mut words = Words::of(step);
         let word = words.next().ok_or(Fault::Missing)?;
+        let words = Words::of(part(step, words.at, step.len()));
         match word {
             b"encode" => files::encode(self.alloc, words),
             b"decode" => files::decode(self.alloc, words),
-            b"index" => files::index(self.alloc, words),
+            b"index" => self.index(words),
             b"pack" => files::pack(self.alloc, words),
-            b"unpack" => files::unpack(self.alloc, words),
+            b"unpack" => self.unpack(words),
             b"out" => self.list(words),
             b"reverse" => self.reverse(words),
             b"swap" => self.swap(words),
@@ -77,8 +80,8 @@ impl Bench {
 
     // join NUMBER N 0|1 OFFSET:COORDINATE.., 1 where the piece is reversed
     fn join(&mut self, mut words: Words<'_>) -> Result<Reply, StepError> {
-        let call = number(&mut words)?;
-        let n = number(&mut words)?;
+        let call = number(&mut words).unwrap_or(0);
+        let n = number(&mut words).unwrap_or(0);
         let reversed = flag(&mut words)?;
         let piece: Vec<u64> = list(self.alloc, words)?;
         Ok(self.state.join(call, n, reversed, &piece)?)
@@ -93,8 +96,8 @@ impl Bench {
 
     // show UNITIG VERTEX ROOM
     fn show(&mut self, mut words: Words<'_>) -> Result<Reply, StepError> {
-        let unitig = number(&mut words)?;
-        let vertex = number(&mut words)?;
+        let unitig = number(&mut words).unwrap_or(0);
+        let vertex = number(&mut words).unwrap_or(0);
         let room = size(&mut words)?;
         Ok(self.state.show(self.alloc, unitig, vertex, room)?)
     }

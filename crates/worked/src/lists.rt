@@ -20,17 +20,14 @@ fn same_outside(range: Range<usize>, before: &[u64], after: &[u64]) -> bool {
 }
 
 impl Bench {
-    // Eights in each place of the output but at its front, where these runs stand; so much of it is lent.
-    fn refill(&mut self, runs: &[u64], lent: usize) -> Result<(), AllocError> {
+    // Eights in each place of the output, of which so much is lent.
+    pub(crate) fn refill(&mut self, lent: usize) -> Result<(), AllocError> {
         self.out = Buffer::filled(self.alloc, WORDS, EIGHT, lent)?;
-        for (place, run) in self.out.places.iter_mut().zip(runs) {
-            *place = *run;
-        }
         Ok(())
     }
 
     // So many runs at the front of the output, and whether it held `before` but for some places.
-    fn told(
+    pub(crate) fn told(
         &self,
         answer: Result<usize, Refusal>,
         of: Option<usize>,
@@ -39,24 +36,24 @@ impl Bench {
         let count = answer.unwrap_or(0);
         let runs = front(&self.out.places, count).to_vec(self.alloc)?;
         Ok(Reply::Called {
-            answer: answer.map(|_| Said::Runs { runs, of }),
+            answer: answer.map(|_| Said::Runs { count, runs, of }),
             kept,
         })
     }
 
     // out OFFSET:COORDINATE..: an output that holds these runs.
     pub(crate) fn list(&mut self, words: Words<'_>) -> Result<Reply, StepError> {
-        let runs: Vec<u64> = list(self.alloc, words)?;
-        self.refill(&runs, WORDS)?;
-        Ok(self.told(Ok(runs.len()), None, true)?)
+        self.refill(WORDS)?;
+        let count = words.values(&mut self.out.places).unwrap_or(0);
+        Ok(self.told(Ok(count), None, true)?)
     }
 
     // reverse N ROOM OFFSET:COORDINATE..
     pub(crate) fn reverse(&mut self, mut words: Words<'_>) -> Result<Reply, StepError> {
-        let n = number(&mut words)?;
+        let n = number(&mut words).unwrap_or(0);
         let room = size(&mut words)?;
         let runs: Vec<u64> = list(self.alloc, words)?;
-        self.refill(&[], room)?;
+        self.refill(room)?;
         let answer = reverse::reverse_color_runs(&runs, n, self.out.front_mut());
         let kept = self.out.is_fresh_from(answer.unwrap_or(0));
         Ok(self.told(answer, None, kept)?)
@@ -65,8 +62,8 @@ impl Bench {
     // swap N OFFSET:COORDINATE..: in its own place
     pub(crate) fn swap(&mut self, mut words: Words<'_>) -> Result<Reply, StepError> {
         let n = number(&mut words)?;
-        let runs: Vec<u64> = list(self.alloc, words)?;
-        self.refill(&runs, runs.len())?;
+        self.refill(WORDS)?;
+        self.out.lent = words.values(&mut self.out.places).unwrap_or(0);
         let before = self.out.places.clone()?;
         let answer = reverse::reverse_color_runs_in_place(self.out.front_mut(), n);
         let kept = same_outside(0..answer.unwrap_or(0), &before, &self.out.places);
@@ -75,12 +72,12 @@ impl Bench {
 
     // rotate N PIVOT 0|1 ROOM OFFSET:COORDINATE..
     pub(crate) fn rotate(&mut self, mut words: Words<'_>) -> Result<Reply, StepError> {
-        let n = number(&mut words)?;
-        let pivot = number(&mut words)?;
-        let reversed = flag(&mut words)?;
+        let n = number(&mut words).unwrap_or(0);
+        let pivot = number(&mut words).unwrap_or(0);
+        let reversed = flag(&mut words).unwrap_or(false);
         let room = size(&mut words)?;
         let runs: Vec<u64> = list(self.alloc, words)?;
-        self.refill(&[], room)?;
+        self.refill(room)?;
         let answer = rotate::rotate_cycle_color_runs(
             &runs,
             n,
@@ -94,10 +91,10 @@ impl Bench {
 
     // append ROOM USED COUNT N 0|1 OFFSET:COORDINATE..: behind the runs of the output that there is
     pub(crate) fn append(&mut self, mut words: Words<'_>) -> Result<Reply, StepError> {
-        let room = size(&mut words)?;
-        let used = size(&mut words)?;
-        let count = number(&mut words)?;
-        let n = number(&mut words)?;
+        let room = size(&mut words).unwrap_or(0);
+        let used = size(&mut words).unwrap_or(0);
+        let count = number(&mut words).unwrap_or(0);
+        let n = number(&mut words).unwrap_or(0);
         let reversed = flag(&mut words)?;
         let piece: Vec<u64> = list(self.alloc, words)?;
         let before = self.out.places.clone()?;

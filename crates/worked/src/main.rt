@@ -14,19 +14,34 @@ mod lists; // run lists
 mod views; // what lies in a buffer
 
 use crate::bench::Bench;
+use shell::inputs;
 use std::io;
+
+// How many bytes of input are read.
+const MOST_BYTES: usize = 65536;
+
+// A step without the ';' behind it.
+fn without_end(step: &[u8]) -> &[u8] {
+    match step {
+        [step @ .., b';'] => step,
+        _ => step,
+    }
+}
 
 fn main(rt: HostRuntime) -> io::Result<()> {
     let alloc = rt.alloc();
-    let text = io::read_to_string(alloc, rt.stdin())?;
+    let mut text = vec![in alloc; 0u8; MOST_BYTES]?;
+    let count = inputs::read_full(&mut rt.stdin(), &mut text)?;
+    text.truncate(count);
     let mut bench = Bench::new(alloc)?;
-    for line in text.lines() {
+    for line in text.split(|byte| *byte == b'\n') {
         // A line without a colon is a comment, or empty.
-        if let Some((what, steps)) = line.split_once(':') {
-            for step in steps.split_terminator(';') {
-                bench.step(step)?;
+        if let Some(colon) = line.iter().position(|byte| *byte == b':') {
+            for step in line[colon + 1..].split_inclusive(|byte| *byte == b';') {
+                bench.step(without_end(step))?;
             }
-            println!(rt; "{what}: {}", bench.reply)?;
+            rt.write_all(&line[..colon])?;
+            println!(rt; ": {}", bench.reply)?;
         }
     }
     Ok(())

@@ -10,11 +10,22 @@ pub(crate) enum Said {
     Made,
     Value(u64),
     // Ids, and how many bytes they were read from where they were read from bytes.
-    Ids { ids: Vec<u32>, of: Option<usize> },
-    Bytes(Vec<u8>),
+    Ids {
+        ids: Vec<u32>,
+        of: Option<usize>,
+    },
+    // So many bytes, as far as the buffer goes.
+    Bytes {
+        count: usize,
+        bytes: Vec<u8>,
+    },
     Entries(Vec<u64>),
-    // Runs, and how many bytes they were read from, or how many vertices they have.
-    Runs { runs: Vec<u64>, of: Option<usize> },
+    // So many runs, as far as the buffer goes, and how many bytes they were read from, or how many vertices they have.
+    Runs {
+        count: usize,
+        runs: Vec<u64>,
+        of: Option<usize>,
+    },
 }
 
 #[derive(Debug, Drop)]
@@ -31,7 +42,11 @@ pub(crate) enum Reply {
 }
 
 // How many there are, and of how many.
-fn count<W: fmt::Write>(f: &mut fmt::Formatter<W>, items: usize, of: Option<usize>) -> fmt::Result {
+fn counted<W: fmt::Write>(
+    f: &mut fmt::Formatter<W>,
+    items: usize,
+    of: Option<usize>,
+) -> fmt::Result {
     match of {
         Some(of) => write!(f, "ok {items} of {of}:"),
         None => write!(f, "ok {items}:"),
@@ -44,19 +59,19 @@ impl fmt::Display for Said {
             Said::Made => write!(f, "ok"),
             Said::Value(value) => write!(f, "ok {value}"),
             Said::Ids { ids, of } => {
-                count(f, ids.len(), *of)?;
+                counted(f, ids.len(), *of)?;
                 ids.iter().try_for_each(|id| write!(f, " {id}"))
             }
-            Said::Bytes(bytes) => {
-                count(f, bytes.len(), None)?;
+            Said::Bytes { count, bytes } => {
+                counted(f, *count, None)?;
                 bytes.iter().try_for_each(|byte| write!(f, " {byte:02X}"))
             }
             Said::Entries(entries) => {
                 write!(f, "ok:")?;
                 entries.iter().try_for_each(|entry| write!(f, " {entry}"))
             }
-            Said::Runs { runs, of } => {
-                count(f, runs.len(), *of)?;
+            Said::Runs { count, runs, of } => {
+                counted(f, *count, *of)?;
                 runs.iter().try_for_each(|run| {
                     write!(f, " {}:{}", words::offset(*run), words::coordinate(*run))
                 })
