@@ -23,7 +23,7 @@ fn answer(line: &Line, memory: &mut Memory, desk: &mut Desk) -> Result<Option<Re
     desk.obey(line.text()?, memory)
 }
 
-// Nothing says that the input ends: the turns are counted, up to a number that no run reaches.
+// Nothing says that the input ends: the turns are counted, as in `next_line`.
 fn run(
     input: &mut Input,
     line: &mut Line,

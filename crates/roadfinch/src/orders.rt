@@ -9,7 +9,7 @@ use shell::hexes::unhex;
 use shell::reasons::Fault;
 use shell::words::Words;
 
-// Where the ids, the runs and the bytes of one line lie.
+// Where the ids, the runs and the bytes of one line lie. Fixed buffers, as the store's: nothing is allocated.
 #[derive(Drop)]
 pub struct Desk {
     pub ids: [u32; 65536],
