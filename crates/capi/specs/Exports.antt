@@ -1,17 +1,11 @@
 -- How an answer crosses to C: a code, and a lent number for each value that comes with a success.
-use Rattle.std.specs.Prelude.{ℕ, List, get_or, Result, Ok, Err}
-use Rattle.base.specs.declared.Refusal.{Refusal}
-use Rattle.base.specs.Answers.{Answer, refused, done, number_of}
+use Rattle.std.specs.Prelude.{ℕ, List, get_or}
+use Rattle.base.specs.Answers.{Answer, refused, done}
 
 -- 0, or the refusal's number
 abbrev pub code : Answer → ℕ
 code (refused n) = n
 code (done vs) = 0
-
--- the same of a result, whatever comes with a success
-abbrev pub code_of : {T : Type 0} → Result T Refusal → ℕ
-code_of (Ok _) = 0
-code_of (Err r) = number_of r
 
 -- what the number lent for value i holds afterwards: a refusal leaves it as it was
 abbrev pub value : ℕ → Answer → ℕ → ℕ

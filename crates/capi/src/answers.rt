@@ -1,19 +1,9 @@
 // How an answer crosses to C: a refusal as its number, and each value of a success in the number lent for it.
 ghost use Rattle.std.specs.Prelude.{◌≡◌};
 ghost use Rattle.base.specs.Answers.{of_written, of_given};
-ghost use Rattle.capi.specs.Exports.{code, code_of, value};
+ghost use Rattle.capi.specs.Exports.{code, value};
 
-use base::{Given, Refusal};
-
-// 0, or the number of the refusal.
-pub(crate) fn code_of<T: Drop>(answer: Result<T, Refusal>) -> u32
-    ensures { result ≡ code_of answer }
-{
-    match answer {
-        Ok(_) => 0,
-        Err(r) => u32::from(r),
-    }
-}
+use base::{Given, Refusal, code_of};
 
 // An answer of one number.
 pub(crate) fn tell(answer: Result<usize, Refusal>, told: &mut u64) -> u32
@@ -22,7 +12,7 @@ pub(crate) fn tell(answer: Result<usize, Refusal>, told: &mut u64) -> u32
     if let Ok(n) = answer {
         *told = n as u64;
     }
-    code_of(answer)
+    code_of(&answer)
 }
 
 // An answer of two: items given, and bytes taken.
@@ -33,5 +23,5 @@ pub(crate) fn tell_given(answer: Result<Given, Refusal>, given: &mut u64, taken:
         *given = read.items as u64;
         *taken = read.bytes as u64;
     }
-    code_of(answer)
+    code_of(&answer)
 }

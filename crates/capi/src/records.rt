@@ -4,7 +4,8 @@ ghost use Rattle.codec.specs.Records.{write_record, read_into};
 ghost use Rattle.codec.specs.Index.{make_index};
 ghost use Rattle.capi.specs.Exports.{plain, one, two};
 
-use crate::answers::{code_of, tell, tell_given};
+use crate::answers::{tell, tell_given};
+use base::code_of;
 
 // The record of a set to the front of `out`; `written` bytes.
 pub fn rf_write_record(n: u32, ids: &[u32], out: &mut [u8], written: &mut u64) -> u32
@@ -34,5 +35,5 @@ pub fn rf_read_record(
 pub fn rf_make_index(bytes: &[u8], count: u64, out: &mut [u64]) -> u32
     ensures { (result, out.new) ≡ plain (make_index count bytes.now out.old) }
 {
-    code_of(codec::index::index_worker(bytes, count as usize, out))
+    code_of(&codec::index::index_worker(bytes, count as usize, out))
 }

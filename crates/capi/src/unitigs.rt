@@ -7,7 +7,8 @@ ghost use Rattle.runs.specs.Rotate.{rotate_into};
 ghost use Rattle.runs.specs.Bytes.{write_runs, read_runs_into};
 ghost use Rattle.capi.specs.Exports.{one, two};
 
-use crate::answers::{code_of, tell, tell_given};
+use crate::answers::{tell, tell_given};
+use base::code_of;
 
 // The list of the same colours from the other end; `count` runs.
 pub fn rf_reverse_runs(runs: &[u64], n: u32, out: &mut [u64], count: &mut u64) -> u32
@@ -49,7 +50,7 @@ pub fn rf_append_runs(
         *count = appended.runs as u64;
         *vertices = u64::from(appended.vertices);
     }
-    code_of(answer)
+    code_of(&answer)
 }
 
 // A cycle, reversed first where wished, turned left by pivot mod n, equal neighbours merged; `count` runs.

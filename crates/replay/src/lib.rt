@@ -4,9 +4,9 @@
 ghost use Rattle.std.specs.Prelude.{◌≡◌, ◌+◌, ◌*◌, ◌≤◌, length};
 ghost use Rattle.store.specs.State.{bufs, of_answer};
 ghost use Rattle.store.specs.Demand.{store_step, seen};
-ghost use Rattle.replay.specs.Tape.{refusal_of, value_of, part, head_at, call_of, lent_by, room_by, tape, replay_step, session_claim};
+ghost use Rattle.replay.specs.Tape.{value_of, part, head_at, call_of, lent_by, room_by, tape, replay_step, session_claim};
 
-use base::Refusal;
+use base::{Refusal, code_of};
 use store::state::{Store, Told, Way};
 
 // A call's six numbers, its form on the tape. Kind 0 adds ids, 1 joins a piece of b vertices, reversed where c is not 0, 2 closes a
@@ -103,17 +103,8 @@ impl Call {
     }
 }
 
-// What the tape tells of an answer: a refusal's number, or 0. The tape's form has a number for each call in two lists.
-fn refusal_of(a: Result<u64, Refusal>) -> u32
-    ensures { result ≡ refusal_of (of_answer a) }
-{
-    match a {
-        Ok(_) => 0,
-        Err(r) => u32::from(r),
-    }
-}
-
-// And the value of one that is no refusal, or 0.
+// What the tape tells of an answer beside its refusal's number: the value of one that is no refusal, or 0. The tape's form has a
+// number for each call in two lists.
 fn value_of(a: Result<u64, Refusal>) -> u64
     ensures { result ≡ value_of (of_answer a) }
 {
@@ -237,7 +228,7 @@ pub fn replay(
             &mut shown[at..end],
         );
         s = told.state;
-        refusals[i] = refusal_of(told.answer);
+        refusals[i] = code_of(&told.answer);
         answers[i] = value_of(told.answer);
         at = end;
     }

@@ -1,10 +1,19 @@
-use Prim.Native.Nat.{◌-◌}
-use mathlib.Core.Path.{◌≡◌}
+use Prim.Native.Nat.{ℕ, ◌-◌}
+use mathlib.Core.Path.{◌≡◌, refl}
 use native.Mathlib.Omega.{arith}
 use lib.ListN.{length}
-use Rattle.replay.specs.Tape.{room_by, count_of, replay_step}
+use Rattle.std.specs.Prelude.{Result, Ok, Err}
+use Rattle.base.specs.declared.Refusal.{Refusal}
+use Rattle.base.specs.Answers.{code_of}
+use Rattle.store.specs.State.{of_answer}
+use Rattle.replay.specs.Tape.{refusal_of, room_by, count_of, replay_step}
 use Rattle.replay.proofs.Laws.Turns.{keep_none, lent_zero, lent_next, keep_turn, part_roomy}
 use Rattle.replay.proofs.replay.Goals as goal
+
+-- the number of an answer is what the tape tells of its refusal
+code_told : (a : Result ℕ Refusal) → code_of a ≡ refusal_of (of_answer a)
+code_told (Ok v) = refl
+code_told (Err r) = refl
 
 pub loop-i-init : goal.loop-i-init
 loop-i-init c =
@@ -26,7 +35,7 @@ loop-i-preserved c =
     record {
       inside = omega (arith, r.1, v.inside, m);
       places = lent_next _ _ _ _ c.loop-i.i _ _ _ _ v.inside v.places c.head_at.ensures c.from-call.ensures w;
-      done = rw (c.refusal_of.ensures, c.value_of.ensures) (keep_turn _ _ _ _ _ _ _ _ c.loop-i.i _ _ _ _ (omega arith) (omega arith) v.inside v.places c.head_at.ensures c.from-call.ensures w _ _ _ _ _ _ _ _ _ v.done c.one-told.ensures);
+      done = rw (c.code_of.ensures, code_told, c.value_of.ensures) (keep_turn _ _ _ _ _ _ _ _ c.loop-i.i _ _ _ _ (omega arith) (omega arith) v.inside v.places c.head_at.ensures c.from-call.ensures w _ _ _ _ _ _ _ _ _ v.done c.one-told.ensures);
     }
 
 pub returns : goal.returns
