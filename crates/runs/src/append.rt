@@ -41,7 +41,7 @@ fn skip_of(runs: &[u64], piece: &Oriented) -> usize
 {
     let last = orders::last_coordinate(runs);
     let first = words::coordinate(piece.run_at(0));
-    if last == first { 1 } else { 0 }
+    usize::from(last == first)
 }
 
 // The piece's runs from `from` on behind the output's, `shift` vertices further on.

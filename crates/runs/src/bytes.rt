@@ -100,7 +100,7 @@ pub fn sharp_color_at(bytes: &[u8], n: u32, vertex: u32) -> Result<u64, Refusal>
         return Err(Refusal::Place);
     }
     let list = Blocks::read(bytes)?;
-    if !orders::are_sharp(&list, n) {
+    if !orders::are_sharp(list, n) {
         return Err(Refusal::Runs);
     }
     Ok(list.color_at(vertex))

@@ -1,13 +1,13 @@
 // A list of runs, whether it stands as words or as bytes.
-ghost use Rattle.std.specs.Prelude.{ℕ, ◌≡◌, ◌<◌, List, length, get_or};
+ghost use Rattle.std.specs.Prelude.{ℕ, ◌≡◌, ◌^◌, ◌<◌, List, length, get_or};
 
-pub(crate) trait Runs {
+pub(crate) trait Runs: Copy {
     // The list.
     ghost list: { Self → List ℕ };
 
-    // How many runs it has.
+    // How many runs it has: no more than fit into memory.
     fn count(&self) -> usize
-        ensures { result ≡ length (list self.now) };
+        ensures { (result ≡ length (list self.now)) × (result < 2 ^ 61) };
 
     // Run i.
     fn run_at(&self, i: usize) -> u64

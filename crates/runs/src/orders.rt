@@ -4,89 +4,101 @@ ghost use Rattle.runs.specs.Colours.{end_at, last_coord};
 ghost use Rattle.runs.specs.Orders.{steady, sharp};
 ghost use Rattle.runs.specs.Inside.Lists.{Taken};
 ghost use Rattle.runs.specs.Inside.Refusals.{IsTurnedDown};
-ghost use Rattle.runs.specs.Inside.Falls.{Testable, fall, falls, spaced};
+ghost use Rattle.runs.specs.Inside.Falls.{Testable, fall, falls, of_two, of_four, of_eight, spaced};
 
 use crate::listed::Runs;
 use crate::words;
 use base::Refusal;
 
-// 1 where the list falls at place p, that is, run p + 1 begins less than `step` vertices behind run p; otherwise 0. A number,
-// so that several are counted at a time.
-fn fall_at<R: Runs>(runs: &R, step: u64, p: usize) -> u64
-    requires { Testable step (R.list runs.now) × (p + 1 < length (R.list runs.now)) }
-    ensures { (result ≡ fall step (R.list runs.now) p) × (result ≤ 1) }
-{
-    (runs.run_at(p) % 16777216 + (16777215 + step) - runs.run_at(p + 1) % 16777216) / 16777216
+// A list, and how many vertices each run is to begin behind the one before it, at least: none in a steady list, one in a sharp one.
+#[derive(Drop)]
+struct Spacing<R: Runs> {
+    runs: R,
+    step: u64,
+    ghost testable: { Testable step (R.list runs) },
 }
 
-// At how many of place p and the place `apart` behind it.
-fn falls_of_two<R: Runs>(runs: &R, step: u64, p: usize, apart: usize) -> u64
-    requires { Testable step (R.list runs.now) × (apart + p + 1 < length (R.list runs.now)) }
-    ensures { (result ≡ fall step (R.list runs.now) p + fall step (R.list runs.now) (apart + p)) × (result ≤ 2) }
-{
-    fall_at(runs, step, p) + fall_at(runs, step, apart + p)
-}
-
-// At how many of four places, each `apart` behind the one before.
-fn falls_of_four<R: Runs>(runs: &R, step: u64, p: usize, apart: usize) -> u64
-    requires { Testable step (R.list runs.now) × (3 * apart + p + 1 < length (R.list runs.now)) }
-    ensures { (result ≡ fall step (R.list runs.now) p + fall step (R.list runs.now) (apart + p) + (fall step (R.list runs.now) (2 * apart + p) + fall step (R.list runs.now) (3 * apart + p))) × (result ≤ 4) }
-{
-    falls_of_two(runs, step, p, apart) + falls_of_two(runs, step, 2 * apart + p, apart)
-}
-
-// At how many of the first 8 * `eighth` places. Eight parts are read side by side: so a list in far memory is read sooner.
-fn falls_in_eighths<R: Runs>(runs: &R, step: u64, eighth: usize) -> u64
-    requires { Testable step (R.list runs.now) × (8 * eighth < length (R.list runs.now)) }
-    ensures { result ≡ falls step (R.list runs.now) 0 (8 * eighth) }
-{
-    let mut count: u64 = 0;
-    for i in 0..eighth {
-        count += falls_of_four(runs, step, i, eighth)
-            + falls_of_four(runs, step, 4 * eighth + i, eighth);
+impl<R: Runs> Spacing<R> {
+    // 1 where the list falls at place p, that is, run p + 1 begins less than `step` vertices behind run p; otherwise 0. A number, so
+    // that several are counted at a time.
+    fn fall_at(&self, p: usize) -> u64
+        requires { p + 1 < length (R.list self.now.runs) }
+        ensures { (result ≡ fall self.now.step (R.list self.now.runs) p) × (result ≤ 1) }
+    {
+        let begin = self.runs.run_at(p) % 16777216;
+        let next = self.runs.run_at(p + 1) % 16777216;
+        (begin + (16777215 + self.step) - next) / 16777216
     }
-    count
-}
 
-// At how many places from `from` on.
-fn falls_from<R: Runs>(runs: &R, step: u64, from: usize) -> u64
-    requires { Testable step (R.list runs.now) × (from < length (R.list runs.now)) }
-    ensures { result ≡ falls step (R.list runs.now) from (length (R.list runs.now) - 1 - from) }
-{
-    let mut count: u64 = 0;
-    for i in from..runs.count() - 1 {
-        count += fall_at(runs, step, i);
+    // At how many of place p and the place `apart` behind it. This function, `falls_of_four` and `falls_of_eight` stay three: so many places
+    // are read side by side.
+    fn falls_of_two(&self, p: usize, apart: usize) -> u64
+        requires { apart + p + 1 < length (R.list self.now.runs) }
+        ensures { (result ≡ of_two self.now.step (R.list self.now.runs) apart p) × (result ≤ 2) }
+    {
+        self.fall_at(p) + self.fall_at(apart + p)
     }
-    count
-}
 
-// Whether each run begins at least `step` vertices behind the one before it.
-fn is_rising<R: Runs>(runs: &R, step: u64) -> bool
-    requires { Testable step (R.list runs.now) × (0 < length (R.list runs.now)) }
-    ensures { result ≡ eqb (falls step (R.list runs.now) 0 (length (R.list runs.now) - 1)) 0 }
-{
-    let eighth = (runs.count() - 1) / 8;
-    falls_in_eighths(runs, step, eighth) == 0 && falls_from(runs, step, 8 * eighth) == 0
-}
+    // At how many of four places, each `apart` behind the one before.
+    fn falls_of_four(&self, p: usize, apart: usize) -> u64
+        requires { 3 * apart + p + 1 < length (R.list self.now.runs) }
+        ensures { (result ≡ of_four self.now.step (R.list self.now.runs) apart p) × (result ≤ 4) }
+    {
+        self.falls_of_two(p, apart) + self.falls_of_two(2 * apart + p, apart)
+    }
 
-// Whether the first run begins at vertex 0, each at least `step` vertices behind the one before it, and the last at least
-// `step` vertices before n.
-fn is_spaced<R: Runs>(runs: &R, step: u64, n: u32) -> bool
-    requires { Testable step (R.list runs.now) × (0 < length (R.list runs.now)) }
-    ensures { result ≡ spaced step n (R.list runs.now) }
-{
-    words::offset(runs.run_at(0)) == 0
-        && is_rising(runs, step)
-        && u64::from(words::offset(runs.run_at(runs.count() - 1))) + step <= u64::from(n)
+    // Likewise of eight.
+    fn falls_of_eight(&self, p: usize, apart: usize) -> u64
+        requires { 7 * apart + p + 1 < length (R.list self.now.runs) }
+        ensures { (result ≡ of_eight self.now.step (R.list self.now.runs) apart p) × (result ≤ 8) }
+    {
+        self.falls_of_four(p, apart) + self.falls_of_four(4 * apart + p, apart)
+    }
+
+    // At how many of the first 8 * `eighth` places. Eight parts are read side by side: so a list in far memory is read sooner.
+    fn falls_in_eighths(&self, eighth: usize) -> u64
+        requires { 8 * eighth < length (R.list self.now.runs) }
+        ensures { result ≡ falls self.now.step (R.list self.now.runs) 0 (8 * eighth) }
+    {
+        (0..eighth).map(|i| self.falls_of_eight(i, eighth)).sum()
+    }
+
+    // At how many places from `from` on.
+    fn falls_from(&self, from: usize) -> u64
+        requires { from < length (R.list self.now.runs) }
+        ensures { result ≡ falls self.now.step (R.list self.now.runs) from (length (R.list self.now.runs) - 1 - from) }
+    {
+        (from..self.runs.count() - 1).map(|p| self.fall_at(p)).sum()
+    }
+
+    // Whether each run begins at least `step` vertices behind the one before it.
+    fn is_rising(&self) -> bool
+        requires { 0 < length (R.list self.now.runs) }
+        ensures { result ≡ eqb (falls self.now.step (R.list self.now.runs) 0 (length (R.list self.now.runs) - 1)) 0 }
+    {
+        let eighth = (self.runs.count() - 1) / 8;
+        self.falls_in_eighths(eighth) == 0 && self.falls_from(8 * eighth) == 0
+    }
+
+    // Whether the first run begins at vertex 0, each at least `step` vertices behind the one before it, and the last at least `step`
+    // vertices before n.
+    fn is_spaced(&self, n: u32) -> bool
+        requires { 0 < length (R.list self.now.runs) }
+        ensures { result ≡ spaced self.now.step n (R.list self.now.runs) }
+    {
+        words::offset(self.runs.run_at(0)) == 0
+            && self.is_rising()
+            && u64::from(words::offset(self.runs.run_at(self.runs.count() - 1))) + self.step
+                <= u64::from(n)
+    }
 }
 
 // Whether a list is sharp for n vertices.
 #[tactic(auto, using(crate::proofs::Laws::Falls::sharp_spaced, crate::proofs::Laws::Orders::sharp_none))]
-pub(crate) fn are_sharp<R: Runs>(runs: &R, n: u32) -> bool
-    requires { Testable 1 (R.list runs.now) }
-    ensures { result ≡ sharp n (R.list runs.now) }
+pub(crate) fn are_sharp<R: Runs>(runs: R, n: u32) -> bool
+    ensures { result ≡ sharp n (R.list runs) }
 {
-    0 < runs.count() && is_spaced(runs, 1, n)
+    0 < runs.count() && Spacing { runs, step: 1 }.is_spaced(n)
 }
 
 // Whether the list is steady for n vertices.
@@ -94,14 +106,14 @@ pub(crate) fn are_sharp<R: Runs>(runs: &R, n: u32) -> bool
 pub fn is_steady(runs: &[u64], n: u32) -> bool
     ensures { result ≡ steady n runs.now }
 {
-    runs.is_empty() || is_spaced(&runs, 0, n)
+    runs.is_empty() || Spacing { runs, step: 0 }.is_spaced(n)
 }
 
 // Whether the list is sharp for n vertices.
 pub fn is_sharp(runs: &[u64], n: u32) -> bool
     ensures { result ≡ sharp n runs.now }
 {
-    are_sharp(&runs, n)
+    are_sharp(runs, n)
 }
 
 // Whether reverse and rotate take the list: 7, a vertex count above its limit, then 6, not steady.

@@ -15,7 +15,7 @@ use base::Refusal;
 pub(crate) fn turned<'a>(list: Oriented<'a>, pivot: u32) -> Turned<'a>
     ensures { ahead result ≡ rotate_runs list.entry.n pivot list.entry.reversed list.entry.runs.now }
 {
-    let pivot = if list.n == 0 { 0 } else { pivot % list.n };
+    let pivot = pivot.checked_rem(list.n).unwrap_or(0);
     Turned {
         turn: Turn { list, pivot },
         step: 0,

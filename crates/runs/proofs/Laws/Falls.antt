@@ -2,12 +2,14 @@
 use Prim.Native.Nat.{ℕ, zero, suc, ◌+◌, ◌-◌, ◌*◌, ◌/◌, ◌≤◌, ◌<◌}
 use mathlib.Core.Path.{◌≡◌, refl, sym, ap, ◌∙◌, subst}
 use mathlib.Core.Bool.{Bool, true, false}
-use mathlib.Core.List.{List}
+use mathlib.Core.List.{List, map}
 use native.Mathlib.Omega.{arith}
 use native.Mathlib.Decide.{dec_lt}
 use native.Mathlib.Nat.{add-zero, add-suc}
 use native.Mathlib.Numerals.{add-one}
 use borrow.Author.Tests.{leb-true, eqb-true, eq-eqb, ne_eqb, le-leb, lt-ltb, le-ltb}
+use Rattle.std.specs.List.{range_with_len, sum}
+use Rattle.std.proofs.lemmas.List.FromFn.{sum_by-map-range_with_len_more}
 use lib.ListN.{length, get_or, drop_of_length-le}
 use lib.Dec.{ltb, eqb}
 use Rattle.base.specs.Tests.{◌when◌else◌}
@@ -16,7 +18,7 @@ use Rattle.base.proofs.Bools.{and_true, and_both}
 use Rattle.runs.specs.Words.{offset}
 use Rattle.runs.specs.Colours.{next, end_at}
 use Rattle.runs.specs.Orders.{steady, sharp}
-use Rattle.runs.specs.Inside.Falls.{fall, falls, spaced}
+use Rattle.runs.specs.Inside.Falls.{fall, falls, of_eight, spaced}
 use Rattle.runs.proofs.Laws.Orders.{run_begins, steady_yes, yes_steady, sharp_yes, yes_sharp}
 
 -- ---- one place
@@ -83,66 +85,56 @@ module _ (step : ℕ) (ws : List ℕ) where
       let s : falls step ws p a + (falls step ws q b + fall step ws (q + b)) ≡ falls step ws p (a + b) + fall step ws (p + (a + b)) = omega arith in
       s ∙ ap (falls step ws p) (sym (add-suc a b))
 
-  -- the places from p up to i, and one more
-  pub falls_none : (p : ℕ) → 0 ≡ falls step ws p (p - p)
+  -- as a sum over the places
+  pub falls_sum : (p k : ℕ) → sum (map (fall step ws) (range_with_len p k)) ≡ falls step ws p k
   unfolding falls
-  falls_none p = let e : 0 ≡ p - p = omega arith in ap (falls step ws p) e
-
-  pub falls_next : (p i count r : ℕ) → count ≡ falls step ws p (i - p) → r ≡ fall step ws i → p ≤ i → count + r ≡ falls step ws p (i + 1 - p)
-  falls_next p i count r e f h =
-      let a : falls step ws p (i - p + 1) ≡ falls step ws p (i - p) + fall step ws i = falls_more p (i - p) i (omega arith) in
-      let b : i - p + 1 ≡ i + 1 - p = omega arith in
-      let s : count + r ≡ falls step ws p (i - p + 1) = omega arith in
-      s ∙ ap (falls step ws p) b
-
-  pub falls_end : (p i m count : ℕ) → count ≡ falls step ws p (i - p) → i ≡ m → count ≡ falls step ws p (m - p)
-  falls_end p i m count e q = e ∙ ap (λ (x : ℕ). falls step ws p (x - p)) q
+  falls_sum p zero = refl
+  falls_sum p (suc k) =
+      ap (λ (n : ℕ). sum (map (fall step ws) (range_with_len p n))) (sym (add-one k))
+      ∙ sum_by-map-range_with_len_more (λ (x : ℕ). x) (fall step ws) p k (p + k) refl
+      ∙ ap (λ (x : ℕ). x + fall step ws (p + k)) (falls_sum p k)
 
   -- of i places in each of eight parts of q places
-  abbrev pub in_eighths : ℕ → ℕ → ℕ
+  abbrev in_eighths : ℕ → ℕ → ℕ
   in_eighths q i =
       falls step ws 0 i + falls step ws q i + (falls step ws (2 * q) i + falls step ws (3 * q) i)
       + (falls step ws (4 * q) i + falls step ws (5 * q) i + (falls step ws (6 * q) i + falls step ws (7 * q) i))
 
-  -- of the places p, q + p, 2 q + p and 3 q + p
-  abbrev pub of_four : ℕ → ℕ → ℕ
-  of_four q p = fall step ws p + fall step ws (q + p) + (fall step ws (2 * q + p) + fall step ws (3 * q + p))
-
-  pub four_is : (q p r s : ℕ) → r ≡ fall step ws p + fall step ws (q + p) → s ≡ fall step ws (2 * q + p) + fall step ws (q + (2 * q + p)) → r + s ≡ of_four q p
-  four_is q p r s e f =
-      let g : fall step ws (q + (2 * q + p)) ≡ fall step ws (3 * q + p) = ap (fall step ws) (omega arith) in
-      omega arith
-
-  pub eighths_none : (q : ℕ) → 0 ≡ in_eighths q 0
-  unfolding falls
-  eighths_none q = refl
-
-  pub eighths_more : (q i count r s : ℕ) → count ≡ in_eighths q i → r ≡ of_four q i → s ≡ of_four q (4 * q + i) → count + (r + s) ≡ in_eighths q (i + 1)
-  eighths_more q i count r s e f g =
+  eighths_more : (q i : ℕ) → in_eighths q i + of_eight step ws q i ≡ in_eighths q (i + 1)
+  eighths_more q i =
       let a0 : falls step ws 0 (i + 1) ≡ falls step ws 0 i + fall step ws i = falls_more 0 i i (omega arith) in
       let a1 : falls step ws q (i + 1) ≡ falls step ws q i + fall step ws (q + i) = falls_more q i (q + i) refl in
       let a2 : falls step ws (2 * q) (i + 1) ≡ falls step ws (2 * q) i + fall step ws (2 * q + i) = falls_more (2 * q) i (2 * q + i) refl in
-      let a3 : falls step ws (3 * q) (i + 1) ≡ falls step ws (3 * q) i + fall step ws (3 * q + i) = falls_more (3 * q) i (3 * q + i) refl in
+      let a3 : falls step ws (3 * q) (i + 1) ≡ falls step ws (3 * q) i + fall step ws (q + (2 * q + i)) = falls_more (3 * q) i (q + (2 * q + i)) (omega arith) in
       let a4 : falls step ws (4 * q) (i + 1) ≡ falls step ws (4 * q) i + fall step ws (4 * q + i) = falls_more (4 * q) i (4 * q + i) refl in
       let a5 : falls step ws (5 * q) (i + 1) ≡ falls step ws (5 * q) i + fall step ws (q + (4 * q + i)) = falls_more (5 * q) i (q + (4 * q + i)) (omega arith) in
       let a6 : falls step ws (6 * q) (i + 1) ≡ falls step ws (6 * q) i + fall step ws (2 * q + (4 * q + i)) = falls_more (6 * q) i (2 * q + (4 * q + i)) (omega arith) in
-      let a7 : falls step ws (7 * q) (i + 1) ≡ falls step ws (7 * q) i + fall step ws (3 * q + (4 * q + i)) = falls_more (7 * q) i (3 * q + (4 * q + i)) (omega arith) in
+      let a7 : falls step ws (7 * q) (i + 1) ≡ falls step ws (7 * q) i + fall step ws (q + (2 * q + (4 * q + i))) = falls_more (7 * q) i (q + (2 * q + (4 * q + i))) (omega arith) in
       omega arith
 
-  pub eighths_end : (q i count : ℕ) → count ≡ in_eighths q i → i ≡ q → count ≡ falls step ws 0 (8 * q)
-  eighths_end q i count e f = e ∙ ap (in_eighths q) f ∙ all q
-    where
-      all : (q : ℕ) → in_eighths q q ≡ falls step ws 0 (8 * q)
-      all q =
-          let a : falls step ws 0 q + falls step ws q q ≡ falls step ws 0 (q + q) = falls_join 0 q q q (omega arith) in
-          let b : falls step ws (2 * q) q + falls step ws (3 * q) q ≡ falls step ws (2 * q) (q + q) = falls_join (2 * q) q q (3 * q) (omega arith) in
-          let c : falls step ws (4 * q) q + falls step ws (5 * q) q ≡ falls step ws (4 * q) (q + q) = falls_join (4 * q) q q (5 * q) (omega arith) in
-          let d : falls step ws (6 * q) q + falls step ws (7 * q) q ≡ falls step ws (6 * q) (q + q) = falls_join (6 * q) q q (7 * q) (omega arith) in
-          let e : falls step ws 0 (q + q) + falls step ws (2 * q) (q + q) ≡ falls step ws 0 (q + q + (q + q)) = falls_join 0 (q + q) (q + q) (2 * q) (omega arith) in
-          let f : falls step ws (4 * q) (q + q) + falls step ws (6 * q) (q + q) ≡ falls step ws (4 * q) (q + q + (q + q)) = falls_join (4 * q) (q + q) (q + q) (6 * q) (omega arith) in
-          let g : falls step ws 0 (q + q + (q + q)) + falls step ws (4 * q) (q + q + (q + q)) ≡ falls step ws 0 (q + q + (q + q) + (q + q + (q + q))) = falls_join 0 (q + q + (q + q)) (q + q + (q + q)) (4 * q) (omega arith) in
-          let h : falls step ws 0 (q + q + (q + q) + (q + q + (q + q))) ≡ falls step ws 0 (8 * q) = ap (falls step ws 0) (omega arith) in
-          omega arith
+  in_eighths_sum : (q k : ℕ) → sum (map (of_eight step ws q) (range_with_len 0 k)) ≡ in_eighths q k
+  unfolding falls
+  in_eighths_sum q zero = refl
+  in_eighths_sum q (suc k) =
+      ap (λ (n : ℕ). sum (map (of_eight step ws q) (range_with_len 0 n))) (sym (add-one k))
+      ∙ sum_by-map-range_with_len_more (λ (x : ℕ). x) (of_eight step ws q) 0 k k (omega arith)
+      ∙ ap (λ (x : ℕ). x + of_eight step ws q k) (in_eighths_sum q k)
+      ∙ eighths_more q k
+      ∙ ap (in_eighths q) (add-one k)
+
+  -- all of them
+  pub eighths_sum : (q : ℕ) → sum (map (of_eight step ws q) (range_with_len 0 q)) ≡ falls step ws 0 (8 * q)
+  eighths_sum q =
+      let a : falls step ws 0 q + falls step ws q q ≡ falls step ws 0 (q + q) = falls_join 0 q q q (omega arith) in
+      let b : falls step ws (2 * q) q + falls step ws (3 * q) q ≡ falls step ws (2 * q) (q + q) = falls_join (2 * q) q q (3 * q) (omega arith) in
+      let c : falls step ws (4 * q) q + falls step ws (5 * q) q ≡ falls step ws (4 * q) (q + q) = falls_join (4 * q) q q (5 * q) (omega arith) in
+      let d : falls step ws (6 * q) q + falls step ws (7 * q) q ≡ falls step ws (6 * q) (q + q) = falls_join (6 * q) q q (7 * q) (omega arith) in
+      let e : falls step ws 0 (q + q) + falls step ws (2 * q) (q + q) ≡ falls step ws 0 (q + q + (q + q)) = falls_join 0 (q + q) (q + q) (2 * q) (omega arith) in
+      let f : falls step ws (4 * q) (q + q) + falls step ws (6 * q) (q + q) ≡ falls step ws (4 * q) (q + q + (q + q)) = falls_join (4 * q) (q + q) (q + q) (6 * q) (omega arith) in
+      let g : falls step ws 0 (q + q + (q + q)) + falls step ws (4 * q) (q + q + (q + q)) ≡ falls step ws 0 (q + q + (q + q) + (q + q + (q + q))) = falls_join 0 (q + q + (q + q)) (q + q + (q + q)) (4 * q) (omega arith) in
+      let h : falls step ws 0 (q + q + (q + q) + (q + q + (q + q))) ≡ falls step ws 0 (8 * q) = ap (falls step ws 0) (omega arith) in
+      let i : in_eighths q q ≡ falls step ws 0 (8 * q) = omega arith in
+      in_eighths_sum q q ∙ i
 
   -- ---- no place
 

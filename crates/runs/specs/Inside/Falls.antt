@@ -1,5 +1,5 @@
 -- Where a list falls: so is counted whether it ascends.
-use Rattle.std.specs.Prelude.{ℕ, zero, suc, ◌+◌, ◌-◌, ◌^◌, ◌<◌, ◌≤◌, Bool, ◌&&◌, List, length, get_or, leb, ltb, eqb}
+use Rattle.std.specs.Prelude.{ℕ, zero, suc, ◌+◌, ◌-◌, ◌*◌, ◌^◌, ◌<◌, ◌≤◌, Bool, ◌&&◌, List, length, get_or, leb, ltb, eqb}
 use Rattle.base.specs.Tests.{◌when◌else◌}
 use Rattle.runs.specs.Words.{offset}
 use Rattle.runs.specs.Colours.{last_run}
@@ -7,6 +7,16 @@ use Rattle.runs.specs.Colours.{last_run}
 -- 1 where the list falls at place p, that is, run p + 1 begins less than `step` vertices behind run p; otherwise 0
 unfoldable pub fall : ℕ → List ℕ → ℕ → ℕ
 fall step ws p = 1 when ltb (offset (get_or ws (p + 1) 0)) (offset (get_or ws p 0) + step) else 0
+
+-- at how many of two, four and eight places from p on, each `apart` behind the one before
+abbrev pub of_two : ℕ → List ℕ → ℕ → ℕ → ℕ
+of_two step ws apart p = fall step ws p + fall step ws (apart + p)
+
+abbrev pub of_four : ℕ → List ℕ → ℕ → ℕ → ℕ
+of_four step ws apart p = of_two step ws apart p + of_two step ws apart (2 * apart + p)
+
+abbrev pub of_eight : ℕ → List ℕ → ℕ → ℕ → ℕ
+of_eight step ws apart p = of_four step ws apart p + of_four step ws apart (4 * apart + p)
 
 -- at how many of the k places from p on
 unfoldable pub falls : ℕ → List ℕ → ℕ → ℕ → ℕ

@@ -1,12 +1,15 @@
 -- `runs::rotate::turned` meets its contract.
-use Rattle.std.proofs.Common.{◌≡◌, ◌≤◌, ◌<◌, ◌%◌, arith}
+use Rattle.std.proofs.Common.{ℕ, ◌≡◌, ◌≤◌, ◌<◌, ◌%◌, ◌∙◌, arith}
+use Rattle.std.specs.Prelude.{Option, Some, None}
+use Rattle.std.specs.Option.{SomeIff, unwrap_or}
 use Rattle.runs.proofs.Laws.Cursor.{rotate_is}
 use Rattle.runs.proofs.rotate.turned.Goals as goal
-use Rattle.runs.proofs.rotate.turned.Goals.{then-list-eq0, else-list-eq0}
+
+remainder : (n pivot : ℕ) (r : Option ℕ) → SomeIff r (0 < n) (pivot % n) → (unwrap_or r 0 ≤ n) × (0 < n → unwrap_or r 0 ≡ pivot % n)
+remainder n pivot None s = (omega arith, λ h. absurd (s h))
+remainder n pivot (Some x) s = (omega (arith, s.0, s.1), λ h. s.1)
 
 pub returns : goal.returns
 returns c =
-    let n = c.args.list.n in
-    let is : 0 < n → c.if-list-eq0.pivot ≡ c.args.pivot % n = elim c.if-list-eq0.branch [ then-list-eq0 w ↦ λ h. absurd (omega arith) | else-list-eq0 w ↦ λ h. w.pivot-is ] in
-    let within : c.if-list-eq0.pivot ≤ n = elim c.if-list-eq0.branch [ then-list-eq0 w ↦ omega arith | else-list-eq0 w ↦ omega arith ] in
-    rotate_is n c.if-list-eq0.pivot c.args.pivot c.args.list.reversed c.args.list.runs.now c.args.list.taken within is
+    let r = remainder c.args.list.n c.args.pivot c.checked_rem.result c.checked_rem.ensures in
+    rotate_is c.args.list.n _ c.args.pivot c.args.list.reversed c.args.list.runs.now c.args.list.taken (omega (arith, r.0, c.unwrap_or-pivot.ensures)) (λ h. c.unwrap_or-pivot.ensures ∙ r.1 h)

@@ -1,8 +1,8 @@
--- `runs::orders::is_spaced` meets its contract.
+-- `runs::orders::Spacing::is_spaced` meets its contract.
 use Rattle.std.proofs.Common.{rules}
 use Rattle.runs.specs.Inside.Falls.{spaced}
-use Rattle.runs.proofs.orders.is_spaced.Goals as goal
-use Rattle.runs.proofs.orders.is_spaced.Goals.{then-offset-eq0, else-offset-eq0}
+use Rattle.runs.proofs.orders.Spacing.is_spaced.Goals as goal
+use Rattle.runs.proofs.orders.Spacing.is_spaced.Goals.{then-offset-eq0, else-offset-eq0}
 
 pub returns-then-is_rising : goal.returns-then-is_rising
 unfolding spaced
