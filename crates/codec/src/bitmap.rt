@@ -42,7 +42,7 @@ pub(crate) fn chunk_width(base: u32, n: u32) -> u32
     requires { base < n }
     ensures { (result ≡ min 32 (n - base)) × (result ≤ 32) × (base + result ≤ n) × (0 < result) }
 {
-    u32::min(32, n - base)
+    (n - base).min(32)
 }
 
 // The bitmap behind the bits of `w`.

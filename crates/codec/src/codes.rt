@@ -81,7 +81,7 @@ pub(crate) fn topped(x: u64, b: u32) -> u64
 pub(crate) fn delta_of(w: u64) -> Option<Coded>
     ensures { CodedIn w result }
 {
-    let z = u64::trailing_zeros(w);
+    let z = w.trailing_zeros();
     if 4 < z {
         return None;
     }
@@ -122,10 +122,10 @@ pub(crate) fn split_top(s: u32) -> Split
     requires { 0 < s }
     ensures { SplitOf s result }
 {
-    let bit = 31 - u32::leading_zeros(s);
+    let bit = 31 - s.leading_zeros();
     Split {
         bit,
-        low: (s as u64) - (1u64 << bit),
+        low: u64::from(s) - (1u64 << bit),
     }
 }
 
@@ -145,7 +145,7 @@ fn top_len(bit: u32) -> u32
     requires { bit ≤ 20 }
     ensures { (result ≡ 2 * high_bit (bit + 1) + 1 + bit) × (result ≤ 29) }
 {
-    DELTA_LEN[bit as usize] as u32
+    u32::from(DELTA_LEN[bit as usize])
 }
 
 // The gamma code of `v` as a number.
@@ -153,7 +153,7 @@ fn gamma_value(v: u32) -> u64
     requires { v ≤ 20 }
     ensures { (low_bits (2 * high_bit (v + 1) + 1) result ≡ gamma v) × (result < 2 ^ (2 * high_bit (v + 1) + 1)) }
 {
-    GAMMA[v as usize] as u64
+    u64::from(GAMMA[v as usize])
 }
 
 // The delta code of `v`.
@@ -174,7 +174,7 @@ pub(crate) fn delta_len(v: u32) -> usize
     requires { v ≤ 2 ^ 20 }
     ensures { (result ≡ length (delta v)) × (result ≤ 29) }
 {
-    top_len(31 - u32::leading_zeros(v + 1)) as usize
+    top_len(31 - (v + 1).leading_zeros()) as usize
 }
 
 // The delta code of `v` behind the bits of `w`.

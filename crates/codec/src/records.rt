@@ -33,7 +33,7 @@ pub fn color_record_len(n: u32, ids: &[u32]) -> Result<usize, Refusal>
 fn payload_len(set: ColorSet) -> u32
     ensures { result ≡ length (encode_set set.entry.n set.entry.ids.now) }
 {
-    ((crate::sets::set_len(set) + 7) / 8) as u32
+    crate::sets::set_len(set).div_ceil(8) as u32
 }
 
 // Whether any record of sets of `n` colours fits in `room` bytes with a prefix of one byte.

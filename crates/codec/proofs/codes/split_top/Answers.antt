@@ -36,4 +36,4 @@ pub overflow_sub-result : goal.overflow_sub-result
 overflow_sub-result c = omega (arith, one_shl c.args.s c.requires c.ranges.s.fits, (top c.args.s c.requires c.ranges.s.fits).low)
 
 pub returns : goal.returns
-returns c = split-of c.args.s c.requires c.ranges.s.fits
+returns c = rw c.from.ensures (split-of c.args.s c.requires c.ranges.s.fits)
