@@ -52,14 +52,11 @@ pub(crate) fn write_map(w: &mut BitWriter, set: ColorSet)
     ensures wrote { Wrote w.old w.new (map_bits 0 set.entry.n set.entry.ids.now) }
 {
     let mut i: usize = 0;
-    let mut base: u32 = 0;
-    // By hand, as in `count_map`.
-    while base < set.n {
+    for base in (0..set.n).step_by(32) {
         let width = chunk_width(base, set.n);
         let c = map_chunk(set, i, base, width);
         w.push(c.word, width);
         i = c.next;
-        base += width;
     }
 }
 
@@ -72,16 +69,13 @@ pub(crate) fn same_map(bytes: &[u8], at: usize, set: ColorSet) -> Option<usize>
         return None;
     }
     let mut i: usize = 0;
-    let mut base: u32 = 0;
-    // By hand, as in `count_map`.
-    while base < set.n {
+    for base in (0..set.n).step_by(32) {
         let width = chunk_width(base, set.n);
         let c = map_chunk(set, i, base, width);
         if crate::bits::bits_at(bytes, at + base as usize, width as usize) != c.word {
             return None;
         }
         i = c.next;
-        base += width;
     }
     Some(at + set.n as usize)
 }

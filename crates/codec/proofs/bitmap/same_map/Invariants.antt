@@ -1,5 +1,5 @@
--- `codec::bitmap::same_map` meets its contract. The loop's invariant: the bits below `base` stand there.
-use Prim.Native.Nat.{◌+◌, ◌-◌}
+-- `bitmap::same_map` meets its contract. The loop's invariant: the bits below `base` stand there.
+use Prim.Native.Nat.{◌+◌}
 use mathlib.Core.Path.{◌≡◌}
 use mathlib.Core.Bool.{Bool}
 use mathlib.Core.List.{List, ◌++◌}
@@ -10,6 +10,3 @@ use Rattle.codec.proofs.bitmap.same_map.Given as goal
 
 abbrev pub invariant-loop-base : goal.invariant-loop-base
 invariant-loop-base l = (done : List Bool) × Mapping l.set.n l.set.ids.now l.i l.base done × (drop l.at (bits_of l.bytes) ≡ done ++ drop (l.at + l.base) (bits_of l.bytes))
-
-abbrev pub decreases-loop-base : goal.decreases-loop-base
-decreases-loop-base l = l.set.n - l.base

@@ -1,5 +1,4 @@
--- `codec::bitmap::write_map` meets its contract. The loop's invariant: the bits below `base` are written.
-use Prim.Native.Nat.{◌-◌}
+-- `bitmap::write_map` meets its contract. The loop's invariant: the bits below `base` are written.
 use mathlib.Core.Path.{◌≡◌}
 use mathlib.Core.Bool.{Bool}
 use mathlib.Core.List.{List}
@@ -9,6 +8,3 @@ use Rattle.codec.proofs.bitmap.write_map.Given as goal
 
 abbrev pub invariant-loop-base : goal.invariant-loop-base
 invariant-loop-base l = (done : List Bool) × Mapping l.set.n l.set.ids.now l.i l.base done × Wrote l.initial.w l.w done × (l.w.out.ghost_name ≡ l.initial.w.out.ghost_name)
-
-abbrev pub decreases-loop-base : goal.decreases-loop-base
-decreases-loop-base l = l.set.n - l.base
