@@ -20,8 +20,8 @@ fn has_fall(ids: &[u32]) -> bool
     ensures { result ≡ has_fall (get_or ids.now 0 0) (drop 1 ids.now) }
 {
     let mut found = false;
-    for i in 1..ids.len() {
-        found |= ids[i] <= ids[i - 1];
+    for (before, id) in ids.iter().zip(&ids[1..]) {
+        found |= *id <= *before;
     }
     found
 }

@@ -1,6 +1,6 @@
 -- Ascending ids, by neighbours and by the last.
 use Prim.Native.Nat.{ℕ, suc, ◌+◌, ◌-◌, ◌≤◌, ◌<◌}
-use mathlib.Core.Path.{◌≡◌, refl}
+use mathlib.Core.Path.{◌≡◌, refl, sym, ◌∙◌}
 use mathlib.Core.Bool.{Bool, true, false, not, ◌||◌, ◌&&◌}
 use mathlib.Core.List.{List, [], ◌∷◌}
 use native.Mathlib.Omega.{arith}
@@ -59,11 +59,33 @@ unfolding within
 within_none [] n e = refl
 within_none (x ∷ xs) n e = absurd (omega arith)
 
--- a fall from place i on, one place at a time
-pub falls_next : (ids : List ℕ) (i : ℕ) → 0 < i → i < length ids → has_fall (get_or ids (i - 1) 0) (drop i ids) ≡ (leb (get_or ids i 0) (get_or ids (i - 1) 0) || has_fall (get_or ids i 0) (drop (i + 1) ids))
-unfolding has_fall
-falls_next ids i p h = rw (add-one i, drop-cons ids i 0 h)
+-- ---- each id beside the one behind it: what was found, or a fall among those ahead
 
-pub falls_end : (ids : List ℕ) (i x : ℕ) → length ids ≤ i → has_fall x (drop i ids) ≡ false
+pub record Falling (ids : List ℕ) (found : Bool) (before next : List ℕ) : Type 0 where
+  pub some : 0 < length before
+  pub behind : next ≡ drop 1 before
+  pub same : has_fall (get_or ids 0 0) (drop 1 ids) ≡ (found || has_fall (get_or before 0 0) next)
+
+pub falling_none : (ids : List ℕ) → 0 < length ids → Falling ids false ids (drop 1 ids)
+falling_none ids h = record { some = h; behind = refl; same = refl }
+
+or_or : (a b c : Bool) → (a || (b || c)) ≡ ((a || b) || c)
+or_or true b c = refl
+or_or false b c = refl
+
+or_none : (a : Bool) → (a || false) ≡ a
+or_none true = refl
+or_none false = refl
+
+pub falling_more : (ids : List ℕ) (found : Bool) (x y : ℕ) (before next : List ℕ) → Falling ids found (x ∷ before) (y ∷ next) → Falling ids (found || leb y x) before next
 unfolding has_fall
-falls_end ids i x h = rw (drop_of_length-le ids {i = i} h)
+falling_more ids found x y [] next f = let z : ◌≡◌ {A = ℕ} 0 1 = cc f.behind in absurd (omega arith)
+falling_more ids found x y (b ∷ before) next f =
+    let e : y ≡ b = cc f.behind in
+    let d : next ≡ before = cc f.behind in
+    record { some = omega arith; behind = d; same = rw (← e) (f.same ∙ or_or found (leb y x) (has_fall y next)) }
+
+pub falling_end : (ids : List ℕ) (found : Bool) (before next : List ℕ) → Falling ids found before next → length next ≡ 0 → found ≡ has_fall (get_or ids 0 0) (drop 1 ids)
+unfolding has_fall
+falling_end ids found before [] f e = sym (f.same ∙ or_none found)
+falling_end ids found before (y ∷ next) f e = absurd (omega arith)

@@ -1,27 +1,32 @@
-use Prim.Native.Nat.{◌+◌, ◌-◌}
-use mathlib.Core.Path.{◌≡◌, refl, sym, ap, ◌∙◌}
-use mathlib.Core.Bool.{Bool, true, false, ◌||◌}
+use mathlib.Core.Path.{◌≡◌, sym, ◌∙◌}
+use borrow.Author.Rules.{rules}
+use Prim.Native.Nat.{◌-◌}
+use lib.ListN.{length, take, drop}
+use Rattle.base.proofs.Parts.{tail_is}
+use Rattle.std.specs.Slice.Iter.{iter_rest}
+use Rattle.std.specs.Iterator.Adapters.{zip_first, zip_second}
+use mathlib.Core.Logic.{inl, inr}
 use native.Mathlib.Omega.{arith}
-use lib.ListN.{get_or}
-use Rattle.codec.proofs.Laws.Ascending.{falls_next, falls_end}
+use Rattle.codec.proofs.Laws.Ascending.{falling_none, falling_more, falling_end}
 use Rattle.codec.proofs.sets.has_fall.Goals as goal
 
-or_or : (a b c : Bool) → (a || (b || c)) ≡ ((a || b) || c)
-or_or true b c = refl
-or_or false b c = refl
-
-or_none : (a : Bool) → (a || false) ≡ a
-or_none true = refl
-or_none false = refl
-
-pub loop-i-preserved : goal.loop-i-preserved
-loop-i-preserved c =
+pub loop-before-init : goal.loop-before-init
+loop-before-init c =
     let ids = c.args.ids.now in
-    let i = c.loop-i.i in
-    let e : i + 1 - 1 ≡ i = omega arith in
-    (omega arith, omega arith, rw e (c.loop-i.invariant.2 ∙ ap (λ (t : Bool). c.loop-i.found || t) (falls_next ids i c.loop-i.invariant.0 (omega arith)) ∙ or_or c.loop-i.found _ _))
+    let it = c.into_iter-before-iterator.result in
+    let first : iter_rest (zip_first it) ≡ ids = cc in
+    let second : iter_rest (zip_second it) ≡ take (length ids - 1) (drop 1 ids) = search rules in
+    rw (first, second, tail_is 1 ids) (falling_none ids c.requires)
+
+pub loop-before-preserved : goal.loop-before-preserved
+loop-before-preserved c =
+    let h = c.in-Some.ensures.steps in
+    falling_more c.args.ids.now _ _ _ _ _ (rw (h.0, h.1) at c.loop-before.invariant)
 
 pub returns : goal.returns
 returns c =
-    let ids = c.args.ids.now in
-    sym (c.loop-i.invariant.2 ∙ ap (λ (t : Bool). c.loop-i.found || t) (falls_end ids c.loop-i.i (get_or ids (c.loop-i.i - 1) 0) (omega arith)) ∙ or_none c.loop-i.found)
+    let so = c.loop-before.invariant in
+    elim c.in-None.ensures.steps [
+      | inl p ↦ absurd (omega (arith, so.some, p.1.0))
+      | inr p ↦ falling_end _ _ _ _ so p.1.0
+    ]
