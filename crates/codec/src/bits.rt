@@ -18,16 +18,8 @@ pub(crate) fn word_at(bytes: &[u8], k: usize) -> u64
     requires { k + 8 ≤ length bytes.now }
     ensures { bits_of (drop k bytes.now) ≡ low_bits 64 result ++ bits_of (drop (k + 8) bytes.now) }
 {
-    u64::from_le_bytes([
-        bytes[k],
-        bytes[k + 1],
-        bytes[k + 2],
-        bytes[k + 3],
-        bytes[k + 4],
-        bytes[k + 5],
-        bytes[k + 6],
-        bytes[k + 7],
-    ])
+    let eight = bytes[k..].first_chunk();
+    u64::from_le_bytes(*eight.unwrap())
 }
 
 // The bytes from `k` to the end, fewer than eight, lowest first, as one number.
@@ -36,8 +28,8 @@ fn tail_at(bytes: &[u8], k: usize) -> u64
     ensures { (bits_of (drop k bytes.now) ≡ low_bits (8 * (length bytes.now - k)) result) × (result < 2 ^ (8 * (length bytes.now - k))) }
 {
     let mut value: u64 = 0;
-    for i in (k..bytes.len()).rev() {
-        value = u64::from(bytes[i]) + 256 * value;
+    for &byte in bytes[k..].iter().rev() {
+        value = u64::from(byte) + 256 * value;
     }
     value
 }
@@ -110,16 +102,10 @@ impl<'a> BitWriter<'a> {
             self.acc = acc;
             return;
         }
-        let a1 = acc / 256;
-        let a2 = a1 / 256;
-        let a3 = a2 / 256;
-        let at = self.at;
-        self.out[at] = (acc % 256) as u8;
-        self.out[at + 1] = (a1 % 256) as u8;
-        self.out[at + 2] = (a2 % 256) as u8;
-        self.out[at + 3] = (a3 % 256) as u8;
-        self.at += 4;
-        self.acc = a3 / 256;
+        let end = self.at + 4;
+        self.out[self.at..end].copy_from_slice(&acc.to_le_bytes()[..4]);
+        self.at = end;
+        self.acc = acc >> 32;
         self.pending -= 32;
     }
 
@@ -129,18 +115,9 @@ impl<'a> BitWriter<'a> {
         ensures same_reference { self.new.out.ghost_name ≡ self.old.out.ghost_name }
         ensures packed { (result ≡ length (pack_bits (stream_of self.old))) × (self.new.out.now ≡ pack_bits (stream_of self.old) ++ drop result self.old.out.now) }
     {
-        let first = self.at;
-        let pending = self.pending;
-        let whole = first + (pending / 8) as usize;
-        let mut acc = self.acc;
-        for at in first..whole {
-            self.out[at] = (acc % 256) as u8;
-            acc /= 256;
-        }
-        if pending % 8 == 0 {
-            return whole;
-        }
-        self.out[whole] = (acc % 256) as u8;
-        whole + 1
+        let len = self.pending.div_ceil(8) as usize;
+        let end = self.at + len;
+        self.out[self.at..end].copy_from_slice(&self.acc.to_le_bytes()[..len]);
+        end
     }
 }

@@ -3,14 +3,16 @@ use Prim.Native.Nat.{ℕ, zero, suc, ◌+◌, ◌-◌, ◌*◌, ◌/◌, ◌%◌
 use mathlib.Core.Path.{◌≡◌, refl, sym, ap, ap₂, ◌∙◌, subst}
 use mathlib.Core.Bool.{Bool, true, false}
 use mathlib.Core.List.{List, [], ◌∷◌, ◌++◌, append_assoc, append-nil}
-use native.Mathlib.Nat.{add_comm, add-mod_right, mod-eq_of_lt, div-eq_of_lt, lt_of_not-le, not-le_of_lt, lt_of_lt_of_le}
-use native.Mathlib.Numerals.{add-one}
+use native.Mathlib.Nat.{div-one, pow-suc, div-div-eq-div-mul, add_comm, add-mod_right, mod-eq_of_lt, div-eq_of_lt, lt_of_not-le, not-le_of_lt, lt_of_lt_of_le}
 use native.Mathlib.Decide.{dec_le}
 use native.Mathlib.Omega.{arith}
-use lib.ListN.{get_or, length, take, drop, set, replicate, length-append, length-set, length-replicate, length-drop, take-append-drop, drop_of_length-le, replicate-append-replicate}
-use lib.Seq.{take-suc-set, take_at, drop_at, take_all, length-take-le}
+use lib.ListN.{get_or, length, take, drop, replicate, length-append, length-replicate, length-drop, take-append-drop, drop_of_length-le, replicate-append-replicate}
+use lib.Seq.{get_or-drop, take_at, drop_at, take_all, length-take-le}
 use lib.Arith.{digits_lt}
 use lib.Pow.{pow-add, pow_mono, shl_exact}
+use borrow.Rule.Slice.PartMut.{put_mid}
+use Rattle.std.specs.Int.{w64, byte_at, bytes_low_first, to_le_bytes}
+use Rattle.std.proofs.lemmas.Slice.{take-put_mid, drop-put_mid}
 use Rattle.codec.specs.Bits.{low_bits, value_of, bits_of, pack_bytes, pack_bits, bytes_for, AreBytes}
 use Rattle.codec.specs.Codes.{high_bit, gamma, delta}
 use Rattle.codec.proofs.Laws.Codes.{high_top}
@@ -24,34 +26,6 @@ bits_append (x ∷ xs) ys = ap (λ (l : List Bool). low_bits 8 x ++ l) (bits_app
 bits_byte : (x : ℕ) → bits_of (x ∷ []) ≡ low_bits 8 x
 unfolding bits_of
 bits_byte x = append-nil (low_bits 8 x)
-
--- a whole byte goes from the pending bits to the buffer
-pub flush : (out : List ℕ) (at acc p : ℕ) → at < length out → bits_of (take (at + 1) (set out at (acc % 256))) ++ low_bits p (acc / 256) ≡ bits_of (take at out) ++ low_bits (8 + p) acc
-flush out at acc p h =
-    rw (add-one at, take-suc-set out at (acc % 256) h, bits_append (take at out) (acc % 256 ∷ []), bits_byte (acc % 256), low_mod 8 acc, low_add 8 p acc)
-    (append_assoc (bits_of (take at out)) (low_bits 8 acc) (low_bits p (acc / 256)))
-
-pub flush4 : (out : List ℕ) (at acc p : ℕ) → at + 3 < length out
-    → bits_of (take (at + 4) (set (set (set (set out at (acc % 256)) (at + 1) (acc / 256 % 256)) (at + 2) (acc / 256 / 256 % 256)) (at + 3) (acc / 256 / 256 / 256 % 256)))
-    ++ low_bits p (acc / 256 / 256 / 256 / 256)
-    ≡ bits_of (take at out) ++ low_bits (32 + p) acc
-flush4 out at acc p h =
-    let o1 : List ℕ = set out at (acc % 256) in
-    let o2 : List ℕ = set o1 (at + 1) (acc / 256 % 256) in
-    let o3 : List ℕ = set o2 (at + 2) (acc / 256 / 256 % 256) in
-    let o4 : List ℕ = set o3 (at + 3) (acc / 256 / 256 / 256 % 256) in
-    let n4 : at + 4 ≡ at + 3 + 1 = omega arith in
-    let n3 : at + 3 ≡ at + 2 + 1 = omega arith in
-    let n2 : at + 2 ≡ at + 1 + 1 = omega arith in
-    let p4 : 32 + p ≡ 8 + (8 + (8 + (8 + p))) = omega arith in
-    ap (λ (n : ℕ). bits_of (take n o4) ++ low_bits p (acc / 256 / 256 / 256 / 256)) n4
-    ∙ flush o3 (at + 3) (acc / 256 / 256 / 256) p (simp length-set (omega arith))
-    ∙ ap (λ (n : ℕ). bits_of (take n o3) ++ low_bits (8 + p) (acc / 256 / 256 / 256)) n3
-    ∙ flush o2 (at + 2) (acc / 256 / 256) (8 + p) (simp length-set (omega arith))
-    ∙ ap (λ (n : ℕ). bits_of (take n o2) ++ low_bits (8 + (8 + p)) (acc / 256 / 256)) n2
-    ∙ flush o1 (at + 1) (acc / 256) (8 + (8 + p)) (simp length-set (omega arith))
-    ∙ flush out at acc (8 + (8 + (8 + p))) (omega arith)
-    ∙ ap (λ (n : ℕ). bits_of (take at out) ++ low_bits n acc) (sym p4)
 
 -- a short number and a shifted one, as the machine adds them
 pub joined_lt : (p c a v : ℕ) → a < 2 ^ p → v < 2 ^ c → a + v * 2 ^ p < 2 ^ (p + c)
@@ -135,30 +109,95 @@ packed xs bits k h e l =
 pub low_more : (p k n : ℕ) → n < 2 ^ p → low_bits (p + k) n ≡ low_bits p n ++ replicate k false
 low_more p k n h = low_add p k n ∙ ap (λ (m : ℕ). low_bits p n ++ low_bits k m) (div-eq_of_lt h) ∙ ap (λ (l : List Bool). low_bits p n ++ l) (low_zero k)
 
--- bytes that are taken or stored
+-- parts of bytes, and bytes behind bytes
 pub bytes_take : (n : ℕ) (xs : List ℕ) → AreBytes xs → AreBytes (take n xs)
 bytes_take zero xs h = λ i. omega arith
 bytes_take (suc n) [] h = h
 bytes_take (suc n) (x ∷ xs) h = λ i. elim i as (λ i. get_or (take (suc n) (x ∷ xs)) i 0 < 256) [ zero ↦ h 0 | suc j ↦ bytes_take n xs (λ k. h (suc k)) j ]
 
-pub bytes_set : (xs : List ℕ) (i v : ℕ) → AreBytes xs → v < 256 → AreBytes (set xs i v)
-bytes_set [] i v h l = h
-bytes_set (x ∷ xs) zero v h l = λ k. elim k as (λ k. get_or (set (x ∷ xs) 0 v) k 0 < 256) [ zero ↦ l | suc j ↦ h (suc j) ]
-bytes_set (x ∷ xs) (suc i) v h l = λ k. elim k as (λ k. get_or (set (x ∷ xs) (suc i) v) k 0 < 256) [ zero ↦ h 0 | suc j ↦ bytes_set xs i v (λ m. h (suc m)) l j ]
+bytes_drop : (n : ℕ) (xs : List ℕ) → AreBytes xs → AreBytes (drop n xs)
+bytes_drop n xs h = λ i. rw (get_or-drop n xs i 0) (h (n + i))
 
--- what is left at the end: nothing, or a part of a byte
-pub packed_whole : (out : List ℕ) (at acc left : ℕ) → AreBytes out → left ≡ 0 → pack_bits (bits_of (take at out) ++ low_bits left acc) ≡ take at out
-unfolding low_bits
-packed_whole out at acc left h e = rw e (packed (take at out) (bits_of (take at out) ++ []) 0 (bytes_take at out h) (sym (append-nil (bits_of (take at out) ++ []) ∙ append-nil (bits_of (take at out)))) (omega arith))
+bytes_append : (xs ys : List ℕ) → AreBytes xs → AreBytes ys → AreBytes (xs ++ ys)
+bytes_append [] ys h k = k
+bytes_append (x ∷ xs) ys h k = λ i. elim i as (λ i. get_or ((x ∷ xs) ++ ys) i 0 < 256) [ zero ↦ h 0 | suc j ↦ bytes_append xs ys (λ m. h (suc m)) k j ]
 
-pub packed_part : (out : List ℕ) (at acc left : ℕ) → AreBytes out → at < length out → acc < 2 ^ left → 0 < left → left < 8
-    → pack_bits (bits_of (take at out) ++ low_bits left acc) ≡ take (at + 1) (set out at (acc % 256))
+-- ---- the low bytes of a number, put into a buffer
+
+low_bytes : ℕ → ℕ → List ℕ
+low_bytes zero x = []
+low_bytes (suc n) x = x % 256 ∷ low_bytes n (x / 256)
+
+byte_is : (i x : ℕ) → byte_at i x ≡ x / 256 ^ i % 256
+byte_is zero x = rw div-one refl
+byte_is (suc i) x = refl
+
+low_first : (n x i : ℕ) → bytes_low_first i n x ≡ low_bytes n (x / 256 ^ i)
+unfolding low_bytes
+low_first zero x i = refl
+low_first (suc n) x i =
+    let e : x / 256 ^ suc i ≡ x / 256 ^ i / 256 = ap (λ (m : ℕ). x / m) (pow-suc 256 i) ∙ sym (div-div-eq-div-mul x (256 ^ i) 256) in
+    ap₂ (λ (b : ℕ) (l : List ℕ). b ∷ l) (byte_is i x) (low_first n x (suc i) ∙ ap (low_bytes n) e)
+
+take_low : (n m x : ℕ) → n ≤ m → take n (low_bytes m x) ≡ low_bytes n x
+unfolding low_bytes
+take_low zero m x h = refl
+take_low (suc n) zero x h = absurd (omega arith)
+take_low (suc n) (suc m) x h = ap (λ (l : List ℕ). x % 256 ∷ l) (take_low n m (x / 256) (omega arith))
+
+-- by std's word
+low_of : (n x : ℕ) → n ≤ 8 → take n (to_le_bytes w64 x) ≡ low_bytes n x
+low_of n x h = ap (take n) (low_first 8 x 0 ∙ ap (low_bytes 8) (div-one x)) ∙ take_low n 8 x h
+
+length_low_bytes : (n x : ℕ) → length (low_bytes n x) ≡ n
+unfolding low_bytes
+length_low_bytes zero x = refl
+length_low_bytes (suc n) x = ap suc (length_low_bytes n (x / 256))
+
+low_none : (x : ℕ) → low_bits 0 x ≡ []
 unfolding low_bits
-packed_part out at acc left h l f p q =
-    let k : 8 ≡ left + (8 - left) = omega arith in
-    packed (take (at + 1) (set out at (acc % 256))) (bits_of (take at out) ++ low_bits left acc) (8 - left) (bytes_take (at + 1) (set out at (acc % 256)) (bytes_set out at (acc % 256) h (omega arith)))
-    (sym (append-nil (bits_of (take (at + 1) (set out at (acc % 256))))) ∙ flush out at acc 0 l ∙ ap (λ (n : ℕ). bits_of (take at out) ++ low_bits n acc) k
-    ∙ ap (λ (m : List Bool). bits_of (take at out) ++ m) (low_more left (8 - left) acc f) ∙ sym (append_assoc (bits_of (take at out)) (low_bits left acc) (replicate (8 - left) false)))
+low_none x = refl
+
+bits_low_bytes : (n x : ℕ) → bits_of (low_bytes n x) ≡ low_bits (8 * n) x
+unfolding low_bytes bits_of
+bits_low_bytes zero x = sym (low_none x)
+bits_low_bytes (suc n) x =
+    let m : 8 * suc n ≡ 8 + 8 * n = omega arith in
+    rw (m, low_add 8 (8 * n) x, bits_low_bytes n (x / 256), low_mod 8 x)
+
+bytes_low_bytes : (n x : ℕ) → AreBytes (low_bytes n x)
+unfolding low_bytes
+bytes_low_bytes zero x = λ i. omega arith
+bytes_low_bytes (suc n) x = λ i. elim i as (λ i. get_or (x % 256 ∷ low_bytes n (x / 256)) i 0 < 256) [ zero ↦ omega arith | suc j ↦ bytes_low_bytes n (x / 256) j ]
+
+-- n low bytes of x at a place of the buffer: what the buffer holds then
+pub record Placed (out new : List ℕ) (at n x : ℕ) : Type 0 where
+  pub bits : bits_of (take (at + n) new) ≡ bits_of (take at out) ++ low_bits (8 * n) x
+  pub kept : drop (at + n) new ≡ drop (at + n) out
+  pub size : length new ≡ length out
+  pub bytes : AreBytes out → AreBytes new
+
+pub placed : (out ys : List ℕ) (at n k x : ℕ) → k ≡ n → at + n ≤ length out → n ≤ 8 → ys ≡ take n (to_le_bytes w64 x) → Placed out (put_mid at k out ys) at n x
+placed out ys at n k x e inside few is =
+    let low : ys ≡ low_bytes n x = is ∙ low_of n x few in
+    let l : length ys ≡ n = ap length low ∙ length_low_bytes n x in
+    let new = put_mid at k out ys in
+    let front : take (at + n) new ≡ take at out ++ ys = take-put_mid at k out ys (at + n) (omega arith) (omega arith) in
+    let kept : drop (at + n) new ≡ drop (at + n) out = drop-put_mid at k out ys (at + n) (omega arith) (omega arith) (omega arith) in
+    record {
+      bits = ap bits_of front ∙ bits_append (take at out) ys ∙ ap (λ (bs : List Bool). bits_of (take at out) ++ bs) (ap bits_of low ∙ bits_low_bytes n x);
+      kept = kept;
+      size = omega (arith, length-append (take at out) (ys ++ drop k (drop at out)), length-append ys (drop k (drop at out)), length-take-le at out (omega arith), length-drop k (drop at out), length-drop at out);
+      bytes = λ h. bytes_append (take at out) (ys ++ drop k (drop at out)) (bytes_take at out h) (bytes_append ys (drop k (drop at out)) (subst AreBytes (sym low) (bytes_low_bytes n x)) (bytes_drop k (drop at out) (bytes_drop at out h)));
+    }
+
+-- the last bits with them
+pub packed_end : (out new : List ℕ) (at n acc left : ℕ) → Placed out new at n acc → AreBytes out → acc < 2 ^ left → left ≤ 8 * n → 8 * n < left + 8 → pack_bits (bits_of (take at out) ++ low_bits left acc) ≡ take (at + n) new
+packed_end out new at n acc left put are small few all =
+    let k : ℕ = 8 * n - left in
+    let e : 8 * n ≡ left + k = omega arith in
+    packed (take (at + n) new) (bits_of (take at out) ++ low_bits left acc) k (bytes_take (at + n) new (put.bytes are))
+    (put.bits ∙ ap (λ (bs : List Bool). bits_of (take at out) ++ bs) (ap (λ (m : ℕ). low_bits m acc) e ∙ low_more left k acc small) ∙ sym (append_assoc (bits_of (take at out)) (low_bits left acc) (replicate k false)))
     (omega arith)
 
 -- the bits of packed bytes: the bits, and zeros up to a byte

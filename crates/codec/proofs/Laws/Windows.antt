@@ -3,18 +3,19 @@ use Prim.Native.Nat.{ℕ, zero, suc, ◌+◌, ◌-◌, ◌*◌, ◌/◌, ◌%◌
 use mathlib.Core.Path.{◌≡◌, refl, sym, ap, ap₂, ◌∙◌, subst}
 use mathlib.Core.Bool.{Bool, true, false}
 use mathlib.Core.List.{List, [], ◌∷◌, ◌++◌, append_assoc, append-nil}
-use native.Mathlib.Nat.{mul_comm, div-div-eq-div-mul, pow-suc, mod-lt, suc-add, zero-add}
+use native.Mathlib.Nat.{mul_comm, div-div-eq-div-mul, pow-suc, mod-lt, suc-add, zero-add, lt_of_lt_of_le}
 use native.Mathlib.Numerals.{add-one}
 use native.Mathlib.Omega.{arith}
-use lib.ListN.{length, take, drop, get_or, replicate, length-drop, take-append-drop, drop_of_length-le, replicate-append-replicate}
-use lib.Seq.{drop-cons, drop_at, take_at, drop-drop, take-append-le, drop-append-le}
+use lib.ListN.{length, take, drop, get_or, replicate, length-append, length-drop, take-append-drop, replicate-append-replicate}
+use lib.Seq.{get_or-append-add, drop-cons, drop_at, take_at, drop-drop, take-append-le, drop-append-le}
 use lib.Count.{count_trailing_zeros, under}
-use lib.Pow.{pow_pos}
+use lib.Pow.{pow_pos, pow_mono}
 use Rattle.codec.specs.Bits.{low_bits, value_of, bits_of, AreBytes}
 use Rattle.codec.specs.Codes.{high_bit, gamma, delta, got, read_delta}
 use Rattle.codec.specs.Inside.Windows.{Window}
 use Rattle.codec.specs.Inside.Places.{ReadCodeAt}
 use Rattle.std.specs.Prelude.{Some}
+use Rattle.std.specs.Int.{w64, from_le_bytes}
 use Rattle.codec.proofs.Laws.Low.{length_low, low_add, low_mod, low_join, value_low, length_bits}
 use Rattle.codec.proofs.Laws.Codes.{high_unique, delta_read}
 use Rattle.codec.proofs.Laws.Bits.{low_top, low_more, joined_lt}
@@ -81,12 +82,31 @@ pub byte_last : (xs : List ℕ) (k next : ℕ) (b : ℕ) → k < length xs → n
 unfolding bits_of
 byte_last xs k next b h e d = let s : next ≡ suc k = e ∙ add-one k in rw (s, drop-cons xs k 0 h, ← d)
 
+first : (n at next : ℕ) (xs : List ℕ) → at < length xs → next ≡ at + 1 → take (suc n) (drop at xs) ≡ get_or xs at 0 ∷ take n (drop next xs)
+first n at next xs h e = ap (take (suc n)) (drop-cons xs at 0 h) ∙ ap (λ (i : ℕ). get_or xs at 0 ∷ take n (drop i xs)) (sym (e ∙ add-one at))
+
+-- the eight bytes from a place, one by one
+eight : (xs : List ℕ) (k : ℕ) → k + 8 ≤ length xs
+    → take 8 (drop k xs) ≡ get_or xs k 0 ∷ get_or xs (k + 1) 0 ∷ get_or xs (k + 2) 0 ∷ get_or xs (k + 3) 0 ∷ get_or xs (k + 4) 0 ∷ get_or xs (k + 5) 0 ∷ get_or xs (k + 6) 0 ∷ get_or xs (k + 7) 0 ∷ []
+eight xs k h =
+    rw (
+      first 7 k (k + 1) xs (omega arith) refl,
+      first 6 (k + 1) (k + 2) xs (omega arith) (omega arith),
+      first 5 (k + 2) (k + 3) xs (omega arith) (omega arith),
+      first 4 (k + 3) (k + 4) xs (omega arith) (omega arith),
+      first 3 (k + 4) (k + 5) xs (omega arith) (omega arith),
+      first 2 (k + 5) (k + 6) xs (omega arith) (omega arith),
+      first 1 (k + 6) (k + 7) xs (omega arith) (omega arith),
+      first 0 (k + 7) (k + 8) xs (omega arith) (omega arith),
+    )
+
+joined : (b0 b1 b2 b3 b4 b5 b6 b7 : ℕ) → from_le_bytes w64 (b0 ∷ b1 ∷ b2 ∷ b3 ∷ b4 ∷ b5 ∷ b6 ∷ b7 ∷ []) ≡ b0 + 256 * (b1 + 256 * (b2 + 256 * (b3 + 256 * (b4 + 256 * (b5 + 256 * (b6 + 256 * b7))))))
+joined b0 b1 b2 b3 b4 b5 b6 b7 = omega arith
+
 -- eight bytes, lowest first, as one number
-pub word_of : (xs : List ℕ) (k r : ℕ) → AreBytes xs → k + 8 ≤ length xs
-    → r ≡ get_or xs k 0 + 256 * (get_or xs (k + 1) 0 + 256 * (get_or xs (k + 2) 0 + 256 * (get_or xs (k + 3) 0 + 256 * (get_or xs (k + 4) 0 + 256 * (get_or xs (k + 5) 0 + 256 * (get_or xs (k + 6) 0 + 256 * get_or xs (k + 7) 0))))))
-    → bits_of (drop k xs) ≡ low_bits 64 r ++ bits_of (drop (k + 8) xs)
+pub word_of : (xs : List ℕ) (k r : ℕ) → AreBytes xs → k + 8 ≤ length xs → r ≡ from_le_bytes w64 (take 8 (drop k xs)) → bits_of (drop k xs) ≡ low_bits 64 r ++ bits_of (drop (k + 8) xs)
 word_of xs k r are h e =
-    rw e
+    rw (e, eight xs k h, joined)
     (byte_more xs k (k + 1) _ _ _ _ (omega arith) refl refl (are k)
     (byte_more xs (k + 1) (k + 2) _ _ _ _ (omega arith) (omega arith) refl (are (k + 1))
     (byte_more xs (k + 2) (k + 3) _ _ _ _ (omega arith) (omega arith) refl (are (k + 2))
@@ -96,24 +116,39 @@ word_of xs k r are h e =
     (byte_more xs (k + 6) (k + 7) _ _ _ _ (omega arith) (omega arith) refl (are (k + 6))
     (byte_last xs (k + 7) (k + 8) _ (omega arith) (omega arith) refl))))))))
 
--- the bytes from i on as a number, built from the end
-abbrev pub Tail : List ℕ → ℕ → ℕ → Type 0
-Tail xs i v = (bits_of (drop i xs) ≡ low_bits (8 * (length xs - i)) v) × (v < 2 ^ (8 * (length xs - i)))
+-- bytes as a number, built from the last: those ahead are `left`
+pub record Tail (all left : List ℕ) (v : ℕ) : Type 0 where
+  pub behind : List ℕ
+  pub parts : all ≡ left ++ behind
+  pub bits : bits_of behind ≡ low_bits (8 * length behind) v
+  pub small : v < 2 ^ (8 * length behind)
 
-pub tail_none : (xs : List ℕ) → Tail xs (length xs) 0
+pub tail_none : (all : List ℕ) → Tail all all 0
 unfolding bits_of low_bits
-tail_none xs =
-    let z : 8 * (length xs - length xs) ≡ 0 = omega arith in
-    (rw (z, drop_of_length-le xs {i = length xs} (omega arith)), rw z (omega arith))
+tail_none all = record { behind = []; parts = sym (append-nil all); bits = refl; small = omega arith }
 
-pub tail_more : (xs : List ℕ) (i v b : ℕ) → 0 < i → i ≤ length xs → b ≡ get_or xs (i - 1) 0 → b < 256 → Tail xs i v → Tail xs (i - 1) (b + 256 * v)
-tail_more xs i v b p h d l t =
-    let n : ℕ = 8 * (length xs - i) in
-    let m : 8 * (length xs - (i - 1)) ≡ 8 + n = omega arith in
-    let c : 256 * v ≡ v * 2 ^ 8 = omega arith in (
-      rw m (byte_more xs (i - 1) i n v b [] (omega arith) (omega arith) d l (t.0 ∙ sym (append-nil (low_bits n v))) ∙ append-nil (low_bits (8 + n) (b + 256 * v))),
-      rw (m, c) (joined_lt 8 n b v l t.1),
-    )
+pub tail_more : (all left : List ℕ) (b v : ℕ) → AreBytes all → Tail all (left ++ b ∷ []) v → Tail all left (b + 256 * v)
+unfolding bits_of
+tail_more all left b v are t =
+    let n : ℕ = 8 * length t.behind in
+    let parts : all ≡ left ++ (b ∷ t.behind) = t.parts ∙ append_assoc left (b ∷ []) t.behind in
+    let here : get_or all (length left + 0) 0 ≡ b = ap (λ (l : List ℕ). get_or l (length left + 0) 0) parts ∙ get_or-append-add left (b ∷ t.behind) 0 0 in
+    let l : b < 256 = subst (λ (x : ℕ). x < 256) here (are (length left + 0)) in
+    let m : 8 * suc (length t.behind) ≡ 8 + n = omega arith in
+    let c : 256 * v ≡ v * 2 ^ 8 = omega arith in
+    record {
+      behind = b ∷ t.behind;
+      parts = parts;
+      bits = rw (m, c, low_join 8 n b v l) (ap (λ (bs : List Bool). low_bits 8 b ++ bs) t.bits);
+      small = rw (m, c) (joined_lt 8 n b v l t.small);
+    }
+
+pub tail_fits : (all left : List ℕ) (v : ℕ) → Tail all left v → length all ≤ 8 → v < 2 ^ 64
+tail_fits all left v t h = lt_of_lt_of_le t.small (pow_mono {j = 64} (omega (arith, ap length t.parts, length-append left t.behind)))
+
+pub tail_end : (all left : List ℕ) (v : ℕ) → Tail all left v → length left ≡ 0 → (bits_of all ≡ low_bits (8 * length all) v) × (v < 2 ^ (8 * length all))
+tail_end all [] v t e = rw t.parts (t.bits, t.small)
+tail_end all (b ∷ left) v t e = absurd (omega arith)
 
 drop_bits : (xs : List ℕ) (k : ℕ) → drop (8 * k) (bits_of xs) ≡ bits_of (drop k xs)
 unfolding bits_of

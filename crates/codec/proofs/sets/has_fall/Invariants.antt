@@ -1,5 +1,4 @@
 -- `sets::has_fall` meets its contract. The loop's invariant: what was found, or a fall further on.
-use mathlib.Core.Path.{◌≡◌}
 use Rattle.std.specs.Slice.Iter.{iter_rest}
 use Rattle.std.specs.Iterator.Adapters.{zip_first, zip_second}
 use Rattle.codec.proofs.Laws.Ascending.{Falling}
