@@ -6,5 +6,6 @@ pub mod Writers
 pub mod Prefixes
 pub mod Gaps
 pub mod Bitmaps
+pub mod Bodies
 pub mod Payloads
 pub mod Indexes

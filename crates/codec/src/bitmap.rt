@@ -1,15 +1,17 @@
 // A set as one bit for each id below the colour count, in chunks of at most 32 bits.
+// `as` below: no `From` leads between u32 and usize, and no number is cut by it, which is proved.
 ghost use Rattle.std.specs.Prelude.{◌≡◌, ◌++◌, ◌+◌, ◌-◌, ◌*◌, ◌<◌, ◌≤◌, ◌^◌, min, length, take, drop};
 ghost use Rattle.base.specs.Parts.{over};
-ghost use Rattle.codec.specs.Bits.{bits_of, low_bits};
+ghost use Rattle.codec.specs.Bits.{low_bits};
 ghost use Rattle.codec.specs.Sets.{map_bits, ids_of};
 ghost use Rattle.codec.specs.Inside.Writers.{Ready, Wrote};
 ghost use Rattle.codec.specs.Inside.Gaps.{Ahead, BitsAt};
 ghost use Rattle.codec.specs.Inside.Bitmaps.{MapOf};
+ghost use Rattle.codec.specs.Inside.Bodies.{map_in};
 
 use crate::bits::BitWriter;
+use crate::body::Body;
 use crate::colors::ColorSet;
-use crate::source::Source;
 
 // A chunk of the bitmap, and how many ids of the set are passed behind it.
 #[derive(Clone, Copy)]
@@ -80,23 +82,6 @@ pub(crate) fn same_map(bytes: &[u8], at: usize, set: ColorSet) -> Option<usize>
     Some(at + set.n as usize)
 }
 
-// How many ids the `n` bits from `at` on tell.
-pub(crate) fn count_map(source: Source, at: usize, n: u32) -> usize
-    requires { (at + n ≤ 8 * length source.bytes.now) × (n ≤ 2 ^ 20) }
-    ensures { (result ≡ length (ids_of 0 (take n (drop at (bits_of source.entry.bytes.now))))) × (result ≤ n) }
-{
-    let mut count: usize = 0;
-    let mut base: u32 = 0;
-    // By hand: a `for` over `(0..n).step_by(32)`, or over the numbers of the chunks, takes more instructions a chunk.
-    while base < n {
-        let width = chunk_width(base, n);
-        let word = crate::bits::bits_at(source.bytes, at + base as usize, width as usize);
-        count += u64::count_ones(word) as usize;
-        base += width;
-    }
-    count
-}
-
 // The ids that the low `width` bits of `word` tell, from `base` on, to place `k` of `out` on: the place
 // behind them.
 pub(crate) fn fill_chunk(word: u64, width: u32, base: u32, out: &mut [u32], k: usize) -> usize
@@ -108,7 +93,7 @@ pub(crate) fn fill_chunk(word: u64, width: u32, base: u32, out: &mut [u32], k: u
     let mut at = k;
     // It goes over the bits that are left, and no range of them is known before.
     while left != 0 {
-        let z = u64::trailing_zeros(left);
+        let z = left.trailing_zeros();
         out[at] = base + z;
         left -= 1u64 << z;
         at += 1;
@@ -116,19 +101,38 @@ pub(crate) fn fill_chunk(word: u64, width: u32, base: u32, out: &mut [u32], k: u
     at
 }
 
-// The ids that the `n` bits from `at` on tell, to the front of `out`.
-pub(crate) fn fill_map(source: Source, at: usize, n: u32, out: &mut [u32])
-    requires bounds { (at + n ≤ 8 * length source.bytes.now) × (n ≤ 2 ^ 20) }
-    requires bytes_in_bounds { length (ids_of 0 (take n (drop at (bits_of source.bytes.now)))) ≤ length out.old }
-    ensures { out.new ≡ over (ids_of 0 (take n (drop at (bits_of source.entry.bytes.now)))) out.old }
-{
-    let mut k: usize = 0;
-    let mut base: u32 = 0;
-    // By hand, as in `count_map`.
-    while base < n {
-        let width = chunk_width(base, n);
-        let word = crate::bits::bits_at(source.bytes, at + base as usize, width as usize);
-        k = fill_chunk(word, width, base, out, k);
-        base += width;
+impl Body<'_> {
+    // How many ids a bitmap tells.
+    pub(crate) fn count_map(self) -> usize
+        requires { self.at + self.colors.n ≤ 8 * length self.source.bytes.now }
+        ensures { (result ≡ length (ids_of 0 (map_in self.entry))) × (result ≤ self.entry.colors.n) }
+    {
+        let n = self.colors.n;
+        let mut count: usize = 0;
+        for base in (0..n).step_by(32) {
+            let width = chunk_width(base, n) as usize;
+            let word = crate::bits::bits_at(self.source.bytes, self.at + base as usize, width);
+            count += word.count_ones() as usize;
+        }
+        count
+    }
+
+    // The ids that a bitmap tells, to the front of `out`.
+    pub(crate) fn fill_map(self, out: &mut [u32])
+        requires place { self.at + self.colors.n ≤ 8 * length self.source.bytes.now }
+        requires space { length (ids_of 0 (map_in self)) ≤ length out.old }
+        ensures { out.new ≡ over (ids_of 0 (map_in self.entry)) out.old }
+    {
+        let n = self.colors.n;
+        let mut k: usize = 0;
+        for base in (0..n).step_by(32) {
+            let width = chunk_width(base, n);
+            let word = crate::bits::bits_at(
+                self.source.bytes,
+                self.at + base as usize,
+                width as usize,
+            );
+            k = fill_chunk(word, width, base, out, k);
+        }
     }
 }

@@ -1,10 +1,31 @@
 // A colour count and ids below it, as every record has them.
-ghost use Rattle.std.specs.Prelude.{◌≡◌, ◌≤◌, ◌^◌, IfOk, IfErr};
+ghost use Rattle.std.specs.Prelude.{◌≡◌, ◌≤◌, ◌^◌, true, false, IfOk, IfErr};
 ghost use Rattle.base.specs.Answers.{number_of};
+ghost use Rattle.codec.specs.Records.{bad_colors};
 ghost use Rattle.codec.specs.Sets.{Within};
 ghost use Rattle.codec.specs.Inside.Colors.{Within-prop, Turned};
 
 use base::Refusal;
+
+// A colour count inside its limits.
+#[derive(Clone, Copy)]
+pub(crate) struct Colors {
+    pub(crate) n: u32,
+    ghost some: { 1 ≤ n },
+    ghost few: { n ≤ 2 ^ 20 },
+}
+
+impl Colors {
+    pub(crate) fn new(n: u32) -> Result<Self, Refusal>
+        ensures taken { IfOk result (λ c. (bad_colors n ≡ false) × (c.n ≡ n)) }
+        ensures refused { IfErr result (λ r. (bad_colors n ≡ true) × (number_of r ≡ 1)) }
+    {
+        if crate::records::bad_colors(n) {
+            return Err(Refusal::Colors);
+        }
+        Ok(Self { n })
+    }
+}
 
 // Ids that ascend strictly, all below a colour count inside its limits.
 #[derive(Clone, Copy)]
@@ -22,12 +43,10 @@ impl<'a> ColorSet<'a> {
         ensures taken { IfOk result (λ s. (s.n ≡ n) × (s.ids ≡ ids.entry)) }
         ensures refused { IfErr result (λ r. Turned n ids.now (number_of r)) }
     {
-        if crate::records::bad_colors(n) {
-            return Err(Refusal::Colors);
-        }
-        if !crate::sets::is_ascending(ids, n) {
+        let colors = Colors::new(n)?;
+        if !crate::sets::is_ascending(ids, colors.n) {
             return Err(Refusal::Ids);
         }
-        Ok(Self { n, ids })
+        Ok(Self { n: colors.n, ids })
     }
 }

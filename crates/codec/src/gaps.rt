@@ -1,12 +1,15 @@
 // Ids as the distances between them. A sparse set codes its own ids so, a dense set those absent.
+// `as` below: no `From` leads between u32 and usize, and no number is cut by it, which is proved.
 ghost use Rattle.std.specs.Prelude.{◌≡◌, ◌++◌, ◌+◌, ◌-◌, ◌*◌, ◌<◌, ◌≤◌, ◌^◌, length, take, drop, set, Bool, true, false};
 ghost use Rattle.base.specs.Parts.{over};
 ghost use Rattle.codec.specs.Bits.{bits_of};
 ghost use Rattle.codec.specs.Sets.{Within, gap_bits, read_gaps, absent};
 ghost use Rattle.codec.specs.Inside.Writers.{Ready, Wrote};
-ghost use Rattle.codec.specs.Inside.Gaps.{coded_ids, numbers, Ahead, up_in, Skipped, Gave, IdsAt, BitsAt, Accepted, Put, Kept, ids_in};
+ghost use Rattle.codec.specs.Inside.Gaps.{coded_ids, numbers, Ahead, up_in, Skipped, Gave, BitsAt, is_given, Put, Kept, ids_in};
+ghost use Rattle.codec.specs.Inside.Bodies.{gaps_in, IdsAt};
 
 use crate::bits::BitWriter;
+use crate::body::Body;
 use crate::codes::ReadCode;
 use crate::colors::ColorSet;
 use crate::source::Source;
@@ -184,64 +187,40 @@ pub(crate) fn put_id(room: &mut [u32], i: usize, id: u32)
     }
 }
 
-// The place behind the `n` ids below `top` that are coded from `at` on, where they are. The ids go to the
-// front of `room`, as many as it holds.
-pub(crate) fn read_gaps(
-    source: Source,
-    at: usize,
-    n: usize,
-    top: u32,
-    room: &mut [u32],
-) -> Option<usize>
-    requires place { at ≤ 8 * length source.bytes.now }
-    requires top_bound { top ≤ 2 ^ 20 }
-    ensures { IdsAt (read_gaps n 0 top) source.entry.bytes.now at result × Put (read_gaps n 0 top (drop at (bits_of source.entry.bytes.now))) room.old room.new }
-{
-    let mut place = at;
-    let mut from: u32 = 0;
-    for i in 0..n {
-        let ReadCode { value, next } = source.next_delta(place)?;
-        if top - from <= value {
-            return None;
+impl Body<'_> {
+    // The place behind the ids, where that many are coded as distances. They go to the front of `room`, as
+    // many as it holds.
+    pub(crate) fn read_gaps(self, room: &mut [u32]) -> Option<usize>
+        ensures { IdsAt (read_gaps self.entry.count 0 self.entry.colors.n) self.entry result × Put (gaps_in self.entry) room.old room.new }
+    {
+        let mut place = self.at;
+        let mut from: u32 = 0;
+        for i in 0..self.count {
+            let ReadCode { value, next } = self.source.next_delta(place)?;
+            if self.colors.n - from <= value {
+                return None;
+            }
+            let id = from + value;
+            put_id(room, i, id);
+            from = id + 1;
+            place = next;
         }
-        let id = from + value;
-        put_id(room, i, id);
-        from = id + 1;
-        place = next;
+        Some(place)
     }
-    Some(place)
 }
 
-// The first `n` ids of `room` to the front of `out`.
-pub(crate) fn copy_ids(room: &[u32], n: usize, out: &mut [u32])
-    requires { (n ≤ length room.now) × (n ≤ length out.old) }
-    ensures { out.new ≡ over (take n room.now) out.old }
-{
-    out[..n].copy_from_slice(&room[..n]);
+// Ids coded as distances that were read once, and are all there. They stand in the front of `room`, where it has
+// space for them.
+#[derive(Clone, Copy)]
+pub(crate) struct Checked<'a> {
+    pub(crate) body: Body<'a>,
+    pub(crate) room: &'a [u32],
+    ghost accepted: { is_given (gaps_in body) ≡ true },
+    ghost kept: { Kept (gaps_in body) body.count room.now },
 }
 
-// The `n` ids that are coded from `at` on, to the front of `out`: from `room`, where all of them were
-// kept, else by reading them again.
-pub(crate) fn fill_gaps(
-    source: Source,
-    at: usize,
-    n: usize,
-    top: u32,
-    room: &[u32],
-    out: &mut [u32],
-)
-    requires bounds { (at ≤ 8 * length source.bytes.now) × (top ≤ 2 ^ 20) × (n ≤ length out.old) }
-    requires accepted { Accepted (read_gaps n 0 top (drop at (bits_of source.bytes.now))) × Kept (read_gaps n 0 top (drop at (bits_of source.bytes.now))) n room.now }
-    ensures { out.new ≡ over (ids_in (read_gaps n 0 top (drop at (bits_of source.entry.bytes.now)))) out.old }
-{
-    if n <= room.len() {
-        copy_ids(room, n, out);
-        return;
-    }
-    read_gaps(source, at, n, top, out);
-}
-
-// The numbers from `from` up to `to` to place `k` of `out` on: the place behind them.
+// The numbers from `from` up to `to` to place `k` of `out` on: the place behind them. By index, since a `zip` of
+// the places of `out` with the numbers promises nothing of `out` afterwards.
 pub(crate) fn fill_numbers(from: u32, to: u32, out: &mut [u32], k: usize) -> usize
     requires { (from ≤ to) × (k + (to - from) ≤ length out.old) }
     ensures { (result ≡ k + (to - from)) × (out.new ≡ over (take k out.old ++ numbers from (to - from)) out.old) }
@@ -266,45 +245,51 @@ pub(crate) fn fill_outside(others: &[u32], top: u32, out: &mut [u32])
     fill_numbers(from, top, out, k);
 }
 
-// The ids below `top` but for the `n` that are coded from `at` on, to the front of `out`: by `room`, where
-// all of those were kept, else by reading them again.
-pub(crate) fn fill_left_out(
-    source: Source,
-    at: usize,
-    n: usize,
-    top: u32,
-    room: &[u32],
-    out: &mut [u32],
-)
-    requires bounds { (top ≤ 2 ^ 20) × (top ≤ n + length out.old) }
-    requires accepted { Accepted (read_gaps n 0 top (drop at (bits_of source.bytes.now))) × Kept (read_gaps n 0 top (drop at (bits_of source.bytes.now))) n room.now }
-    ensures { out.new ≡ over (absent top (ids_in (read_gaps n 0 top (drop at (bits_of source.entry.bytes.now))))) out.old }
-{
-    if n <= room.len() {
-        let others = &room[..n];
-        fill_outside(others, top, out);
-        return;
-    }
-    fill_uncoded(source, at, n, top, out);
-}
-
-// The same, by reading the coded ids.
-pub(crate) fn fill_uncoded(source: Source, at: usize, n: usize, top: u32, out: &mut [u32])
-    requires bounds { (top ≤ 2 ^ 20) × (top ≤ n + length out.old) }
-    requires accepted { Accepted (read_gaps n 0 top (drop at (bits_of source.bytes.now))) }
-    ensures { out.new ≡ over (absent top (ids_in (read_gaps n 0 top (drop at (bits_of source.entry.bytes.now))))) out.old }
-{
-    let mut place = at;
-    let mut from: u32 = 0;
-    let mut k: usize = 0;
-    for _ in 0..n {
-        let Some(ReadCode { value, next }) = source.next_delta(place) else {
+impl Checked<'_> {
+    // The ids to the front of `out`: from `room`, where all of them were kept, else by reading them again.
+    pub(crate) fn fill(self, out: &mut [u32])
+        requires { self.body.count ≤ length out.old }
+        ensures { out.new ≡ over (ids_in (gaps_in self.entry.body)) out.old }
+    {
+        let count = self.body.count;
+        if count <= self.room.len() {
+            out[..count].copy_from_slice(&self.room[..count]);
             return;
-        };
-        let id = from + value;
-        k = fill_numbers(from, id, out, k);
-        from = id + 1;
-        place = next;
+        }
+        self.body.read_gaps(out);
     }
-    fill_numbers(from, top, out, k);
+
+    // The ids left out between them to the front of `out`: by `room`, where all of them were kept, else by
+    // reading them again.
+    pub(crate) fn fill_left_out(self, out: &mut [u32])
+        requires { self.body.colors.n ≤ self.body.count + length out.old }
+        ensures { out.new ≡ over (absent self.entry.body.colors.n (ids_in (gaps_in self.entry.body))) out.old }
+    {
+        let count = self.body.count;
+        if count <= self.room.len() {
+            fill_outside(&self.room[..count], self.body.colors.n, out);
+            return;
+        }
+        self.fill_uncoded(out);
+    }
+
+    // The same, by reading the coded ids.
+    fn fill_uncoded(self, out: &mut [u32])
+        requires { self.body.colors.n ≤ self.body.count + length out.old }
+        ensures { out.new ≡ over (absent self.entry.body.colors.n (ids_in (gaps_in self.entry.body))) out.old }
+    {
+        let mut place = self.body.at;
+        let mut from: u32 = 0;
+        let mut k: usize = 0;
+        for _ in 0..self.body.count {
+            let Some(ReadCode { value, next }) = self.body.source.next_delta(place) else {
+                return;
+            };
+            let id = from + value;
+            k = fill_numbers(from, id, out, k);
+            from = id + 1;
+            place = next;
+        }
+        fill_numbers(from, self.body.colors.n, out, k);
+    }
 }

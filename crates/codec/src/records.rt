@@ -1,14 +1,14 @@
 // Records: a payload's length as a prefix, then the payload.
+// `as` below: no `From` leads between u32 and usize, and no number is cut by it, which is proved.
 ghost use Rattle.std.specs.Prelude.{◌≡◌, ◌&&◌, ltb, leb, ◌+◌, ◌≤◌, ◌<◌, ◌^◌, length, drop};
 ghost use Rattle.base.specs.Answers.{of_written, of_given};
 ghost use Rattle.base.specs.Parts.{over};
-ghost use Rattle.codec.specs.Records.{bad_colors, record_of, write_record, record_length, read_by, after_prefix, read_into, is_record};
-ghost use Rattle.codec.specs.Prefix.{whole};
-ghost use Rattle.codec.specs.Sets.{encode_set};
+ghost use Rattle.codec.specs.Records.{bad_colors, record_of, write_record, record_length, read_into, is_record};
+ghost use Rattle.codec.specs.Sets.{encode_set, decode_set};
+ghost use Rattle.codec.specs.Inside.Payloads.{put_set};
 
-use crate::colors::ColorSet;
+use crate::colors::{ColorSet, Colors};
 use crate::prefix::Prefix;
-use crate::sets::Payload;
 use crate::source::Source;
 use base::{Given, Refusal};
 
@@ -77,61 +77,48 @@ pub fn write_color_record(n: u32, ids: &[u32], out: &mut [u8]) -> Result<usize, 
 pub fn read_color_record(n: u32, input: &[u8], ids: &mut [u32]) -> Result<Given, Refusal>
     ensures { (of_given result, ids.new) ≡ read_into n input.now ids.old }
 {
-    if bad_colors(n) {
-        return Err(Refusal::Colors);
-    }
+    let colors = Colors::new(n)?;
     let Prefix { value, len } = crate::prefix::read_varint_len(input)?;
-    read_payload(n, input, value as usize, len, ids)
-}
-
-// The set whose payload is the `value` bytes behind the first `len` of `input`. Ids coded as distances
-// are kept while they are tested, so that most sets are decoded once.
-fn read_payload(
-    n: u32,
-    input: &[u8],
-    value: usize,
-    len: usize,
-    ids: &mut [u32],
-) -> Result<Given, Refusal>
-    requires { (len ≤ length input.now) × (value ≤ 4294967295) × (n ≤ 2 ^ 20) }
-    ensures { (of_given result, ids.new) ≡ read_by (after_prefix n (whole value (drop len input.now))) (length input.now) ids.old }
-{
+    let value = value as usize;
     if input.len() - len < value {
         return Err(Refusal::Cut);
     }
-    if value < 64 {
-        let mut room = [0u32; 32];
-        return read_whole(n, input, value, len, ids, &mut room);
-    }
-    let mut room = [0u32; 1024];
-    read_whole(n, input, value, len, ids, &mut room)
+    let bytes = len + value;
+    let source = Source::new(&input[len..bytes]);
+    let items = read_payload(colors, source, ids)?;
+    Ok(Given { items, bytes })
 }
 
-// The same where all `value` bytes are there.
-fn read_whole(
-    n: u32,
-    input: &[u8],
-    value: usize,
-    len: usize,
+// The set of a payload to the front of `ids`: how many they are. Ids coded as distances are kept while they are
+// tested, so that most sets are decoded once.
+fn read_payload(colors: Colors, source: Source, ids: &mut [u32]) -> Result<usize, Refusal>
+    ensures { (of_written result, ids.new) ≡ put_set (decode_set colors.n source.entry.bytes.now) ids.old }
+{
+    if source.bytes.len() < 64 {
+        let mut room = [0u32; 32];
+        return read_by_room(colors, source, ids, &mut room);
+    }
+    let mut room = [0u32; 1024];
+    read_by_room(colors, source, ids, &mut room)
+}
+
+// The same, with the ids kept in `room`.
+fn read_by_room(
+    colors: Colors,
+    source: Source,
     ids: &mut [u32],
     room: &mut [u32],
-) -> Result<Given, Refusal>
-    requires { (len + value ≤ length input.now) × (value ≤ 4294967295) × (n ≤ 2 ^ 20) }
-    ensures { (of_given result, ids.new) ≡ read_by (after_prefix n (whole value (drop len input.now))) (length input.now) ids.old }
+) -> Result<usize, Refusal>
+    ensures { (of_written result, ids.new) ≡ put_set (decode_set colors.n source.entry.bytes.now) ids.old }
 {
-    let end = len + value;
-    let source = Source::new(&input[len..end]);
-    let Some(Payload { count, at }) = crate::sets::check_set(n, source, room) else {
+    let Some(body) = crate::sets::check_set(colors, source, room) else {
         return Err(Refusal::Damaged);
     };
-    if ids.len() < count {
+    if ids.len() < body.count {
         return Err(Refusal::Space);
     }
-    crate::sets::decode_source_set(n, source, count, at, room, ids);
-    Ok(Given {
-        items: count,
-        bytes: end,
-    })
+    body.fill(room, ids);
+    Ok(body.count)
 }
 
 // Whether reading `input` gives exactly `ids`; nothing is decoded into a buffer.

@@ -1,16 +1,19 @@
 // Payloads: a set's length, then its ids by one of three regimes.
+// `as` below: no `From` leads between u32 and usize, and no number is cut by it, which is proved.
 ghost use Rattle.std.specs.Prelude.{◌≡◌, ◌&&◌, ltb, ◌+◌, ◌*◌, ◌<◌, ◌≤◌, ◌^◌, length, get_or, drop};
 ghost use Rattle.base.specs.Parts.{over};
 ghost use Rattle.codec.specs.Bits.{bits_of};
 ghost use Rattle.codec.specs.Sets.{within, regime, dense, body_bits, set_bits, encode_set, read_map, read_body, padding, decode_set};
 ghost use Rattle.codec.specs.Inside.Writers.{Ready, Wrote};
-ghost use Rattle.codec.specs.Inside.Gaps.{IdsAt, BitsAt};
-ghost use Rattle.codec.specs.Inside.Payloads.{has_fall, regime_of, PayloadOf, KeptBy, KeptOf, set_ids, gives_set};
+ghost use Rattle.codec.specs.Inside.Gaps.{BitsAt};
+ghost use Rattle.codec.specs.Inside.Payloads.{has_fall, regime_of, set_ids, gives_set};
+ghost use Rattle.codec.specs.Inside.Bodies.{bits_in, IdsAt, KeptBy, KeptIn, IsBody, PayloadOf, KeptOf};
 
 use crate::bits::BitWriter;
+use crate::body::Body;
 use crate::codes::ReadCode;
-use crate::colors::ColorSet;
-use crate::gaps::{Absent, Present};
+use crate::colors::{ColorSet, Colors};
+use crate::gaps::{Absent, Checked, Present};
 use crate::source::Source;
 
 // Whether an id is not above the one before it. There is no early way out, so that several ids are
@@ -95,49 +98,64 @@ pub(crate) fn encode_source_set(out: &mut [u8], set: ColorSet) -> usize
     w.finish()
 }
 
-// The number of ids that a payload holds and the bit place behind that number.
-#[derive(Clone, Copy)]
-pub(crate) struct Payload {
-    pub(crate) count: usize,
-    pub(crate) at: usize,
-}
-
-// The place behind the `count` ids that are written from bit place `at` on, where they are. Those coded as distances are
-// kept in `room`, if they fit.
-pub(crate) fn check_body(
-    n: u32,
-    source: Source,
-    count: usize,
-    at: usize,
-    room: &mut [u32],
-) -> Option<usize>
-    requires { (at ≤ 8 * length source.bytes.now) × (n ≤ 2 ^ 20) }
-    ensures { IdsAt (read_body (regime n count) n count) source.entry.bytes.now at result × KeptBy (regime n count) n count (drop at (bits_of source.entry.bytes.now)) room.new }
-{
-    match kind_of(n, count) {
-        Kind::Empty => Some(at),
-        Kind::Sparse => crate::gaps::read_gaps(source, at, count, n, room),
-        Kind::Bitmap => check_map(n, source, count, at),
-        Kind::Dense => check_absent(n, source, count, at, room),
+impl Body<'_> {
+    // The place behind the ids, where they are. Those coded as distances are kept in `room`, if they fit.
+    fn check(self, room: &mut [u32]) -> Option<usize>
+        ensures { IdsAt (read_body (regime self.entry.colors.n self.entry.count) self.entry.colors.n self.entry.count) self.entry result × KeptIn self.entry room.new }
+    {
+        match kind_of(self.colors.n, self.count) {
+            Kind::Empty => Some(self.at),
+            Kind::Sparse => self.read_gaps(room),
+            Kind::Bitmap => self.check_map(),
+            Kind::Dense => self.check_absent(room),
+        }
     }
-}
 
-fn check_map(n: u32, source: Source, count: usize, at: usize) -> Option<usize>
-    requires { (at ≤ 8 * length source.bytes.now) × (n ≤ 2 ^ 20) }
-    ensures { IdsAt (read_map n count) source.entry.bytes.now at result }
-{
-    if source.bytes.len() * 8 - at < n as usize {
-        return None;
+    fn check_map(self) -> Option<usize>
+        ensures { IdsAt (read_map self.entry.colors.n self.entry.count) self.entry result }
+    {
+        let n = self.colors.n as usize;
+        if self.source.bytes.len() * 8 - self.at < n {
+            return None;
+        }
+        (self.count_map() == self.count).then_some(self.at + n)
     }
-    (crate::bitmap::count_map(source, at, n) == count).then_some(at + n as usize)
-}
 
-fn check_absent(n: u32, source: Source, count: usize, at: usize, room: &mut [u32]) -> Option<usize>
-    requires { (at ≤ 8 * length source.bytes.now) × (n ≤ 2 ^ 20) }
-    ensures { IdsAt (read_body dense n count) source.entry.bytes.now at result × KeptBy dense n count (drop at (bits_of source.entry.bytes.now)) room.new }
-{
-    let absent = (n as usize).checked_sub(count)?;
-    crate::gaps::read_gaps(source, at, absent, n, room)
+    fn check_absent(self, room: &mut [u32]) -> Option<usize>
+        ensures { IdsAt (read_body dense self.entry.colors.n self.entry.count) self.entry result × KeptBy dense self.entry.colors.n self.entry.count (bits_in self.entry) room.new }
+    {
+        let absent = (self.colors.n as usize).checked_sub(self.count)?;
+        self.with_count(absent).read_gaps(room)
+    }
+
+    // So many ids at the same place.
+    fn with_count(self, count: usize) -> Self
+        ensures { result ≡ record self.entry { count = count } }
+    {
+        Self {
+            source: self.source,
+            colors: self.colors,
+            count,
+            at: self.at,
+        }
+    }
+
+    // The ids to the front of `out`, by `room` where it has them.
+    pub(crate) fn fill(self, room: &[u32], out: &mut [u32])
+        requires space { self.count ≤ length out.old }
+        requires checked { IsBody self × KeptIn self room.now }
+        ensures { out.new ≡ over (set_ids (decode_set self.entry.colors.n self.entry.source.bytes.now)) out.old }
+    {
+        match kind_of(self.colors.n, self.count) {
+            Kind::Empty => {}
+            Kind::Sparse => Checked { body: self, room }.fill(out),
+            Kind::Bitmap => self.fill_map(out),
+            Kind::Dense => {
+                let body = self.with_count(self.colors.n as usize - self.count);
+                Checked { body, room }.fill_left_out(out);
+            }
+        }
+    }
 }
 
 // Whether fewer than eight bits are left from `at` on, all zero.
@@ -149,38 +167,23 @@ pub(crate) fn is_padding(payload: &[u8], at: usize) -> bool
     left < 8 && crate::bits::bits_at(payload, at, left) == 0
 }
 
-// What set a payload is that of, if of any. The ids coded as distances are kept in `room`, if they fit.
-pub(crate) fn check_set(n: u32, source: Source, room: &mut [u32]) -> Option<Payload>
-    requires { n ≤ 2 ^ 20 }
-    ensures { PayloadOf n source.entry.bytes.now result × KeptOf n source.entry.bytes.now result room.new }
+// What a payload holds, where it is that of a set. The ids coded as distances are kept in `room`, if they fit.
+pub(crate) fn check_set<'a>(
+    colors: Colors,
+    source: Source<'a>,
+    room: &mut [u32],
+) -> Option<Body<'a>>
+    ensures { PayloadOf colors.n source.entry.bytes.now result × KeptOf result room.new }
 {
     let ReadCode { value, next } = crate::reader::first_delta(source.bytes)?;
-    let behind = check_body(n, source, value as usize, next, room)?;
-    is_padding(source.bytes, behind).then_some(Payload {
+    let body = Body {
+        source,
+        colors,
         count: value as usize,
         at: next,
-    })
-}
-
-// The ids of a payload to the front of `out`, by `room` where it has them.
-pub(crate) fn decode_source_set(
-    n: u32,
-    source: Source,
-    count: usize,
-    at: usize,
-    room: &[u32],
-    out: &mut [u32],
-)
-    requires bounds { (n ≤ 2 ^ 20) × (count ≤ length out.old) }
-    requires payload_of { PayloadOf n source.bytes.now (Some (record { count = count; at = at })) × KeptOf n source.bytes.now (Some (record { count = count; at = at })) room.now }
-    ensures { out.new ≡ over (set_ids (decode_set n source.entry.bytes.now)) out.old }
-{
-    match kind_of(n, count) {
-        Kind::Empty => {}
-        Kind::Sparse => crate::gaps::fill_gaps(source, at, count, n, room, out),
-        Kind::Bitmap => crate::bitmap::fill_map(source, at, n, out),
-        Kind::Dense => crate::gaps::fill_left_out(source, at, n as usize - count, n, room, out),
-    }
+    };
+    let behind = body.check(room)?;
+    is_padding(source.bytes, behind).then_some(body)
 }
 
 // The place behind the bits of a set's ids, where they stand at bit place `at`.

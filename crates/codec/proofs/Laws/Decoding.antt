@@ -15,9 +15,10 @@ use Rattle.base.proofs.Bools.{and_both, and_left_no, and_right_no}
 use Rattle.codec.specs.Bits.{value_of, bits_of}
 use Rattle.codec.specs.Codes.{Read, got, end, read_delta}
 use Rattle.codec.specs.Sets.{ids_of, absent, Regime, sparse, bitmap, dense, regime, given, none, and_ids, read_gaps, read_map, read_body, read_set, padding, set, no_set, padded, decode_set}
-use Rattle.codec.specs.Inside.Gaps.{IdsAt}
-use Rattle.codec.specs.Inside.Payloads.{regime_of, PayloadOf, KeptBy, KeptOf, set_ids}
+use Rattle.codec.specs.Inside.Payloads.{regime_of, set_ids}
+use Rattle.codec.specs.Inside.Bodies.{bits_in, map_in, IdsAt, KeptBy, KeptIn, IsBody, PayloadOf, KeptOf}
 use Rattle.std.specs.Prelude.{Option, Some, None}
+use Rattle.codec.specs.declared.body.Body.{Body}
 use Rattle.codec.specs.declared.sets.Kind.{Kind}
 use Rattle.codec.proofs.Laws.Low.{length_bits}
 use Rattle.codec.proofs.Laws.Sets.{cond_ids, left_ids, regime_some, body_only, padded_set}
@@ -46,23 +47,23 @@ module _ (N len : ℕ) (bits : List Bool) where
       (leb-true N (length bits) (Rattle.base.proofs.Bools.and_true _ _ a.0).0, cc)
 
 -- by what the test says
-pub map_tested : (N len : ℕ) (bytes : List ℕ) (at count : ℕ) → N ≤ 8 * length bytes - at → at ≤ 8 * length bytes → count ≡ length (ids_of 0 (take N (drop at (bits_of bytes))))
-    → IdsAt (read_map N len) bytes at (then_some (eqb count len) (at + N))
-map_tested N len bytes at count h l e = go (eqb count len) refl
+pub map_tested : (b : Body) (count : ℕ) → b.colors.n ≤ 8 * length b.source.bytes.now - b.at → count ≡ length (ids_of 0 (map_in b))
+    → IdsAt (read_map b.colors.n b.count) b (then_some (eqb count b.count) (b.at + b.colors.n))
+map_tested b count h e = go (eqb count b.count) refl
   where
-    bits : List Bool
-    bits = drop at (bits_of bytes)
+    bytes : List ℕ
+    bytes = b.source.bytes.now
 
-    go : (t : Bool) → eqb count len ≡ t → IdsAt (read_map N len) bytes at (then_some t (at + N))
-    go true q = ((ids_of 0 (take N bits), map_given N len bits (simp length-drop (omega (arith, length_bits bytes))) (sym e ∙ eqb-true count len q) ∙ ap (given (ids_of 0 (take N bits))) (drop-drop N at (bits_of bytes))), omega arith)
-    go false q = map_other N len bits (λ z. eqb-false count len q (e ∙ z))
+    go : (t : Bool) → eqb count b.count ≡ t → IdsAt (read_map b.colors.n b.count) b (then_some t (b.at + b.colors.n))
+    go true q = ((ids_of 0 (map_in b), map_given b.colors.n b.count (bits_in b) (simp length-drop (omega (arith, length_bits bytes))) (sym e ∙ eqb-true count b.count q) ∙ ap (given (ids_of 0 (map_in b))) (drop-drop b.colors.n b.at (bits_of bytes))), omega (arith, b.place))
+    go false q = map_other b.colors.n b.count (bits_in b) (λ z. eqb-false count b.count q (e ∙ z))
 
 pub dense_few : (N len : ℕ) (bits : List Bool) → N < len → read_body dense N len bits ≡ none
 dense_few N len bits h = rw (lt-leb len N h)
 
-pub dense_at : (N len : ℕ) (bytes : List ℕ) (at : ℕ) (r : Option ℕ) → len ≤ N → IdsAt (read_gaps (N - len) 0 N) bytes at r → IdsAt (read_body dense N len) bytes at r
-dense_at N len bytes at (Some next) h i = ((absent N i.0.0, rw (le-leb len N h, i.0.1)), i.1)
-dense_at N len bytes at None h i = rw (le-leb len N h, i)
+pub dense_at : (b : Body) (r : Option ℕ) → b.count ≤ b.colors.n → IdsAt (read_gaps (b.colors.n - b.count) 0 b.colors.n) b r → IdsAt (read_body dense b.colors.n b.count) b r
+dense_at b (Some next) h i = ((absent b.colors.n i.0.0, rw (le-leb b.count b.colors.n h, i.0.1)), i.1)
+dense_at b None h i = rw (le-leb b.count b.colors.n h, i)
 
 pub dense_told : (N len : ℕ) (bits : List Bool) (xs : List ℕ) (rest : List Bool) → read_body dense N len bits ≡ given xs rest → (len ≤ N) × ((ys : List ℕ) × (xs ≡ absent N ys) × (read_gaps (N - len) 0 N bits ≡ given ys rest))
 dense_told N len bits xs rest e =
@@ -70,14 +71,15 @@ dense_told N len bits xs rest e =
     (leb-true len N a.0, left_ids N (read_gaps (N - len) 0 N bits) xs rest a.1)
 
 -- the regime that a kind is
-pub body_at : (N len : ℕ) (bytes : List ℕ) (at : ℕ) (r : Option ℕ) (k x : Kind) → k ≡ x → regime_of k ≡ regime N len → IdsAt (read_body (regime_of x) N len) bytes at r → IdsAt (read_body (regime N len) N len) bytes at r
-body_at N len bytes at r k x told is i = subst (λ (g : Regime). IdsAt (read_body g N len) bytes at r) (sym (ap regime_of told) ∙ is) i
+module _ (b : Body) (k x : Kind) (told : k ≡ x) (is : regime_of k ≡ regime b.colors.n b.count) where
+  pub body_at : (r : Option ℕ) → IdsAt (read_body (regime_of x) b.colors.n b.count) b r → IdsAt (read_body (regime b.colors.n b.count) b.colors.n b.count) b r
+  body_at r i = subst (λ (g : Regime). IdsAt (read_body g b.colors.n b.count) b r) (sym (ap regime_of told) ∙ is) i
 
-pub kept_at : (N len : ℕ) (bits : List Bool) (room : List ℕ) (k x : Kind) → k ≡ x → regime_of k ≡ regime N len → KeptBy (regime_of x) N len bits room → KeptBy (regime N len) N len bits room
-kept_at N len bits room k x told is i = subst (λ (g : Regime). KeptBy g N len bits room) (sym (ap regime_of told) ∙ is) i
+  pub kept_at : (room : List ℕ) → KeptBy (regime_of x) b.colors.n b.count (bits_in b) room → KeptIn b room
+  kept_at room i = subst (λ (g : Regime). KeptBy g b.colors.n b.count (bits_in b) room) (sym (ap regime_of told) ∙ is) i
 
-pub kept_told : (N len : ℕ) (bits : List Bool) (room : List ℕ) (k x : Kind) → k ≡ x → regime_of k ≡ regime N len → KeptBy (regime N len) N len bits room → KeptBy (regime_of x) N len bits room
-kept_told N len bits room k x told is i = subst (λ (g : Regime). KeptBy g N len bits room) (sym is ∙ ap regime_of told) i
+  pub kept_told : (room : List ℕ) → KeptIn b room → KeptBy (regime_of x) b.colors.n b.count (bits_in b) room
+  kept_told room i = subst (λ (g : Regime). KeptBy g b.colors.n b.count (bits_in b) room) (sym is ∙ ap regime_of told) i
 
 -- no set has more than N ids
 large_none : (N len : ℕ) (bits : List Bool) → N < len → read_body (regime N len) N len bits ≡ none
@@ -132,21 +134,23 @@ module _ (N : ℕ) (payload : List ℕ) (len : ℕ) (rest : List Bool) (e : read
     body_count = sym (body_only (regime N len) N len rest xs left refl b).count
 
 -- by what the test of the padding says
-pub payload_tested : (N : ℕ) (payload : List ℕ) (len at : ℕ) (xs : List ℕ) (left : List Bool) (room : List ℕ) (t : Bool) → read_delta (bits_of payload) ≡ got len (drop at (bits_of payload)) → at ≤ 8 * length payload
-    → read_body (regime N len) N len (drop at (bits_of payload)) ≡ given xs left → KeptBy (regime N len) N len (drop at (bits_of payload)) room → t ≡ (ltb (length left) 8 && padding left)
-    → PayloadOf N payload (then_some t (record { count = len; at = at })) × KeptOf N payload (then_some t (record { count = len; at = at })) room
-payload_tested N payload len at xs left room true e l b kept p = (((xs, padded_body N payload len _ e xs left b true p, body_count N payload len _ e xs left b), e, l), kept)
-payload_tested N payload len at xs left room false e l b kept p = (padded_body N payload len _ e xs left b false p, tt)
+pub payload_tested : (b : Body) (xs : List ℕ) (left : List Bool) (room : List ℕ) (t : Bool) → read_delta (bits_of b.source.bytes.now) ≡ got b.count (bits_in b)
+    → read_body (regime b.colors.n b.count) b.colors.n b.count (bits_in b) ≡ given xs left → KeptIn b room → t ≡ (ltb (length left) 8 && padding left)
+    → PayloadOf b.colors.n b.source.bytes.now (then_some t b) × KeptOf (then_some t b) room
+payload_tested b xs left room true e is kept p =
+    let bytes : List ℕ = b.source.bytes.now in
+    ((refl, refl, record { ids = xs; are = padded_body b.colors.n bytes b.count _ e xs left is true p; count = body_count b.colors.n bytes b.count _ e xs left is; head = e }), kept)
+payload_tested b xs left room false e is kept p = (padded_body b.colors.n b.source.bytes.now b.count _ e xs left is false p, tt)
 
--- what a payload's number and place tell of its ids
-module _ (N : ℕ) (payload : List ℕ) (count at : ℕ) (p : PayloadOf N payload (Some (record { count = count; at = at }))) where
-  pub payload_body : (k x : Kind) → k ≡ x → regime_of k ≡ regime N count → (rest : List Bool) × (read_body (regime_of x) N count (drop at (bits_of payload)) ≡ given p.0.0 rest)
+-- what a set's payload holds, by its regime
+module _ (b : Body) (p : IsBody b) where
+  pub payload_body : (k x : Kind) → k ≡ x → regime_of k ≡ regime b.colors.n b.count → (rest : List Bool) × (read_body (regime_of x) b.colors.n b.count (bits_in b) ≡ given p.ids rest)
   unfolding decode_set read_set
   payload_body k x told is =
-      let s = padded_set (read_set N (bits_of payload)) p.0.0 p.0.1 in
-      let r : regime_of x ≡ regime N count = sym (ap regime_of told) ∙ is in
-      (s.0, ap (λ (g : Regime). read_body g N count (drop at (bits_of payload))) r ∙ sym (ap (λ (q : Read). and_ids q (λ len rest. read_body (regime N len) N len rest)) p.1) ∙ s.1)
+      let s = padded_set (read_set b.colors.n (bits_of b.source.bytes.now)) p.ids p.are in
+      let r : regime_of x ≡ regime b.colors.n b.count = sym (ap regime_of told) ∙ is in
+      (s.0, ap (λ (g : Regime). read_body g b.colors.n b.count (bits_in b)) r ∙ sym (ap (λ (q : Read). and_ids q (λ len rest. read_body (regime b.colors.n len) b.colors.n len rest)) p.head) ∙ s.1)
 
   -- what is filled with these ids is filled with the set's
-  pub payload_over : (xs out : List ℕ) → xs ≡ p.0.0 → over xs out ≡ over (set_ids (decode_set N payload)) out
-  payload_over xs out e = ap (λ (ys : List ℕ). over ys out) (e ∙ sym (ap set_ids p.0.1))
+  pub payload_over : (xs out : List ℕ) → xs ≡ p.ids → over xs out ≡ over (set_ids (decode_set b.colors.n b.source.bytes.now)) out
+  payload_over xs out e = ap (λ (ys : List ℕ). over ys out) (e ∙ sym (ap set_ids p.are))

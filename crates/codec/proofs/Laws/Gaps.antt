@@ -8,9 +8,10 @@ use lib.ListN.{length, take}
 use lib.Dec.{ltb, eqb}
 use borrow.Author.Tests.{lt-ltb, le-ltb, ltb-true, eqb-true, eqb-false}
 use Rattle.base.specs.Parts.{over}
+use Rattle.base.proofs.Bools.{false_true}
 use Rattle.codec.specs.Codes.{Read, got, end, read_delta}
 use Rattle.codec.specs.Sets.{Within, map_bits, ids_of, absent, ReadIds, given, none, then_id, and_ids, read_gaps}
-use Rattle.codec.specs.Inside.Gaps.{with_ids, absent_from, numbers, ids_in, Accepted, Put, Kept}
+use Rattle.codec.specs.Inside.Gaps.{with_ids, absent_from, numbers, ids_in, is_given, Put, Kept}
 use Rattle.codec.proofs.Laws.Filled.{put_all, put_front}
 use Rattle.codec.proofs.Laws.Sets.{gaps_only, and_ids_lem, cond_ids, then_ids}
 
@@ -42,6 +43,11 @@ pub gaps_done : (from top : ℕ) (bits : List Bool) → read_gaps 0 from top bit
 unfolding read_gaps
 gaps_done from top bits = refl
 
+-- the ids and the bits behind them, of an answer that has them
+pub given_is : (r : ReadIds) → is_given r ≡ true → (xs : List ℕ) × (rest : List Bool) × (r ≡ given xs rest)
+given_is (given xs rest) e = (xs, rest, refl)
+given_is none e = false_true e
+
 pub none_ids : {A : Type 0} {r : ReadIds} {xs : List ℕ} {rest : List Bool} → r ≡ given xs rest → r ≡ none → A
 none_ids {r = r} {xs = xs} {rest = rest} p q = let x : ◌≡◌ {A = ℕ} 0 1 = cc in absurd (omega arith)
 
@@ -72,24 +78,21 @@ put_given r xs rest old new e p = subst (λ (q : ReadIds). Put q old new) (sym e
 -- none are read
 pub kept_none : (n top : ℕ) (bits : List Bool) (room : List ℕ) → n ≡ 0 → Kept (read_gaps n 0 top bits) n room
 unfolding read_gaps
-kept_none n top bits room e = subst (λ (k : ℕ). Kept (read_gaps k 0 top bits) k room) (sym e) (λ h. refl)
+kept_none n top bits room e = subst (λ (k : ℕ). Kept (read_gaps k 0 top bits) k room) (sym e) (λ g h. refl)
 
 module _ (n top : ℕ) (bits : List Bool) where
   pub put_kept : (old new : List ℕ) → Put (read_gaps n 0 top bits) old new → Kept (read_gaps n 0 top bits) n new
   put_kept old new = go (read_gaps n 0 top bits) refl
     where
       go : (r : ReadIds) → read_gaps n 0 top bits ≡ r → Put r old new → Kept r n new
-      go (given xs rest) e p = λ h. ap (take n) p ∙ put_front xs old n (gaps_only n 0 top bits xs rest e).count (subst (λ (l : List ℕ). n ≤ length l) p h)
-      go none e p = tt
+      go (given xs rest) e p = λ g h. ap (take n) p ∙ put_front xs old n (gaps_only n 0 top bits xs rest e).count (subst (λ (l : List ℕ). n ≤ length l) p h)
+      go none e p = λ g. false_true g
 
-  module _ (a : Accepted (read_gaps n 0 top bits)) where
-    pub kept_ids : (room : List ℕ) → Kept (read_gaps n 0 top bits) n room → n ≤ length room → take n room ≡ ids_in (read_gaps n 0 top bits)
-    kept_ids room k h = subst (λ (q : ReadIds). Kept q n room) a.2 k h ∙ ap ids_in (sym a.2)
-
-    pub put_ids : (old new : List ℕ) → Put (read_gaps n 0 top bits) old new → n ≤ length old → new ≡ over (ids_in (read_gaps n 0 top bits)) old
-    put_ids old new p h =
-        let count : length a.0 ≡ n = (gaps_only n 0 top bits a.0 a.1 a.2).count in
-        subst (λ (q : ReadIds). Put q old new) a.2 p ∙ put_all a.0 old (omega arith) ∙ ap (λ (r : ReadIds). over (ids_in r) old) (sym a.2)
+  pub put_ids : (old new : List ℕ) → is_given (read_gaps n 0 top bits) ≡ true → Put (read_gaps n 0 top bits) old new → n ≤ length old → new ≡ over (ids_in (read_gaps n 0 top bits)) old
+  put_ids old new g p h =
+      let a = given_is (read_gaps n 0 top bits) g in
+      let count : length a.0 ≡ n = (gaps_only n 0 top bits a.0 a.1 a.2).count in
+      subst (λ (q : ReadIds). Put q old new) a.2 p ∙ put_all a.0 old (omega arith) ∙ ap (λ (r : ReadIds). over (ids_in r) old) (sym a.2)
 
 -- ---- ids that are known to be there
 

@@ -8,6 +8,7 @@ use lib.ListN.{length, take, drop, length-append, length-drop}
 use lib.Dec.{ltb, eqb}
 use borrow.Author.Tests.{lt-ltb, le-ltb, le-leb, lt-leb, ne_eqb}
 use Rattle.base.specs.Answers.{Answer, refused, done, of_given}
+use Rattle.base.specs.Tests.{◌when◌else◌}
 use Rattle.base.specs.Parts.{over}
 use Rattle.base.specs.declared.Refusal.{Refusal}
 use Rattle.base.proofs.Bools.{or_false}
@@ -16,45 +17,66 @@ use Rattle.codec.specs.Bits.{AreBytes}
 use Rattle.codec.specs.Codes.{gamma, got, read_gamma}
 use Rattle.codec.specs.Prefix.{prefix_of, ReadLeb, whole, cut, bad, read_prefix, of_prefix, prefix_in}
 use Rattle.codec.specs.Sets.{Within, Decoded, set, no_set, decode_set}
-use Rattle.codec.specs.Inside.Payloads.{PayloadOf, set_ids}
+use Rattle.codec.specs.Inside.Payloads.{set_ids, put_set}
 use Rattle.codec.specs.Records.{record_of, found, payload_set, after_prefix, read_record, bad_colors, read_by, read_into}
-use Rattle.std.specs.Prelude.{Err, Some}
+use Rattle.std.specs.Prelude.{Err}
 use Rattle.codec.proofs.Laws.Codes.{gamma_read}
 use Rattle.codec.proofs.Laws.Prefix.{prefix_read}
 use Rattle.codec.proofs.Laws.Records.{record_read, record_only}
 
+-- ---- a payload's set to the front of a buffer
+
+module _ (N : ℕ) (payload out : List ℕ) where
+  pub set_damaged : decode_set N payload ≡ no_set → (refused 5, out) ≡ put_set (decode_set N payload) out
+  unfolding put_set
+  set_damaged e = rw e refl
+
+  module _ (ids : List ℕ) (are : decode_set N payload ≡ set ids) (count : ℕ) (counted : count ≡ length ids) where
+    pub set_space : length out < count → (refused 3, out) ≡ put_set (decode_set N payload) out
+    unfolding put_set
+    set_space h = rw are (sym (when_yes _ _ _ (lt-ltb (length out) (length ids) (omega arith))))
+
+    pub set_done : (last : List ℕ) → count ≤ length out → last ≡ over (set_ids (decode_set N payload)) out → (done (count ∷ []), last) ≡ put_set (decode_set N payload) out
+    unfolding put_set
+    set_done last h e =
+        rw are (ap₂ (λ (n : ℕ) (l : List ℕ). (done (n ∷ []), l)) counted (e ∙ ap (λ (d : Decoded). over (set_ids d) out) are) ∙ sym (when_no _ _ _ (le-ltb (length out) (length ids) (omega arith))))
+
 -- ---- the payload behind a prefix of `len` bytes
+
+-- an answer that tells how many bytes were read too
+abbrev pub and_bytes : ℕ → Answer → Answer
+and_bytes n (refused r) = refused r
+and_bytes n (done ns) = done (ns ++ (n ∷ []))
+
+abbrev pub told : ℕ → Answer × List ℕ → Answer × List ℕ
+told n p = (and_bytes n p.0, p.1)
+
+told_put : (ids rest out : List ℕ) (total n : ℕ) (t : Bool) → total - length rest ≡ n
+    → told n ((refused 3, out) when t else (done (length ids ∷ []), over ids out)) ≡ (refused 3, out) when t else (done (length ids ∷ (total - length rest) ∷ []), over ids out)
+unfolding ◌when◌else◌
+told_put ids rest out total n true e = refl
+told_put ids rest out total n false e = ap (λ (k : ℕ). (done (length ids ∷ k ∷ []), over ids out)) (sym e)
+
+told_set : (d : Decoded) (rest out : List ℕ) (total n : ℕ) → total - length rest ≡ n → told n (put_set d out) ≡ read_by (payload_set d rest) total out
+unfolding put_set read_by
+told_set no_set rest out total n e = refl
+told_set (set ids) rest out total n e = told_put ids rest out total n (ltb (length out) (length ids)) e
 
 module _ (N : ℕ) (input : List ℕ) (value len : ℕ) (out : List ℕ) (inside : len ≤ length input) where
   pub payload_cut : length input - len < value → (refused 4, out) ≡ read_by (after_prefix N (whole value (drop len input))) (length input) out
   unfolding read_by
   payload_cut h = rw (lt-leb value (length (drop len input)) (simp length-drop (omega arith)))
 
-  module _ (fits : value ≤ length input - len) where
-    by_set : (d : Decoded) → decode_set N (take (len + value - len) (drop len input)) ≡ d → after_prefix N (whole value (drop len input)) ≡ payload_set d (drop value (drop len input))
-    by_set d e =
-        let v : len + value - len ≡ value = omega arith in
-        let s : decode_set N (take value (drop len input)) ≡ d = ap (λ (k : ℕ). decode_set N (take k (drop len input))) (sym v) ∙ e in
-        rw (le-leb value (length (drop len input)) (simp length-drop (omega arith)), s)
-
-    pub payload_damaged : decode_set N (take (len + value - len) (drop len input)) ≡ no_set → (refused 5, out) ≡ read_by (after_prefix N (whole value (drop len input))) (length input) out
-    unfolding read_by
-    payload_damaged e = rw (by_set no_set e)
-
-    module _ (count at : ℕ) (p : PayloadOf N (take (len + value - len) (drop len input)) (Some (record { count = count; at = at }))) where
-      found_set : after_prefix N (whole value (drop len input)) ≡ found p.0.0 (drop value (drop len input))
-      found_set = by_set (set p.0.0) p.0.1
-
-      pub payload_space : length out < count → (refused 3, out) ≡ read_by (after_prefix N (whole value (drop len input))) (length input) out
-      unfolding read_by
-      payload_space h = rw found_set (sym (when_yes _ _ _ (lt-ltb (length out) (length p.0.0) (omega (arith, p.0.2)))))
-
-      pub payload_done : (last : List ℕ) → count ≤ length out → last ≡ over (set_ids (decode_set N (take (len + value - len) (drop len input)))) out
-          → (done (count ∷ (len + value) ∷ []), last) ≡ read_by (after_prefix N (whole value (drop len input))) (length input) out
-      unfolding read_by
-      payload_done last h e =
-          let n : length input - length (drop value (drop len input)) ≡ len + value = simp length-drop (omega arith) in
-          rw found_set (ap₂ (λ (a : Answer) (l : List ℕ). (a, l)) (ap₂ (λ (a b : ℕ). done (a ∷ b ∷ [])) p.0.2 (sym n)) (e ∙ ap (λ (d : Decoded). over (set_ids d) out) p.0.1) ∙ sym (when_no _ _ _ (le-ltb (length out) (length p.0.0) (omega (arith, p.0.2)))))
+  -- what its set gives
+  pub payload_put : value ≤ length input - len → (p : Answer × List ℕ) → p ≡ put_set (decode_set N (take (len + value - len) (drop len input))) out
+      → told (len + value) p ≡ read_by (after_prefix N (whole value (drop len input))) (length input) out
+  payload_put fits p e =
+      let rest : List ℕ = drop value (drop len input) in
+      let v : len + value - len ≡ value = omega arith in
+      let there : value ≤ length (drop len input) = simp length-drop (omega arith) in
+      let taken : length input - length rest ≡ len + value = simp length-drop (omega arith) in
+      ap (told (len + value)) (e ∙ ap (λ (k : ℕ). put_set (decode_set N (take k (drop len input))) out) v)
+      ∙ rw (le-leb value (length (drop len input)) there) (told_set (decode_set N (take value (drop len input))) rest out (length input) (len + value) taken)
 
 -- ---- the whole record
 

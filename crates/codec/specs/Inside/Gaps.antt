@@ -60,23 +60,19 @@ abbrev pub with_ids : List ℕ → ReadIds → ReadIds
 with_ids xs (given ys rest) = given (xs ++ ys) rest
 with_ids xs none = none
 
-abbrev pub Accepted : ReadIds → Type 0
-Accepted r = (xs : List ℕ) × (rest : List Bool) × (r ≡ given xs rest)
-
--- ids are read from a place on, and the place behind them; or none are
-abbrev pub IdsAt : (List Bool → ReadIds) → List ℕ → ℕ → Option ℕ → Type 0
-IdsAt read bytes at (Some next) = ((xs : List ℕ) × (read (drop at (bits_of bytes)) ≡ given xs (drop next (bits_of bytes)))) × (next ≤ 8 * length bytes)
-IdsAt read bytes at None = read (drop at (bits_of bytes)) ≡ none
+-- whether ids are read
+abbrev pub is_given : ReadIds → Bool
+is_given (given xs rest) = true
+is_given none = false
 
 -- the ids read stand in the front of what was lent for them, as many as fit
 abbrev pub Put : ReadIds → List ℕ → List ℕ → Type 0
 Put (given xs rest) old new = new ≡ over (take (length old) xs) old
 Put none old new = Unit {0}
 
--- the n ids read stand in the front of a buffer that has space for them
+-- the n ids read, where they are, stand in the front of a buffer that has space for them
 abbrev pub Kept : ReadIds → ℕ → List ℕ → Type 0
-Kept (given xs rest) n room = n ≤ length room → take n room ≡ xs
-Kept none n room = Unit {0}
+Kept r n room = is_given r ≡ true → n ≤ length room → take n room ≡ ids_in r
 
 -- these bits stand at a place, and the place behind them; or they do not
 abbrev pub BitsAt : List Bool → List ℕ → ℕ → Option ℕ → Type 0

@@ -1,13 +1,12 @@
--- What is found in a payload.
-use Rattle.std.specs.Prelude.{ℕ, ◌-◌, ◌*◌, ◌≤◌, ◌≡◌, Bool, false, ◌||◌, Option, Some, None, List, [], ◌∷◌, leb, length, drop}
-use Rattle.codec.specs.Bits.{bits_of}
-use Rattle.codec.specs.Codes.{got, read_delta}
-use Rattle.codec.specs.Sets.{Regime, empty, sparse, bitmap, dense, regime, read_gaps, Decoded, set, no_set, decode_set}
-use Rattle.codec.specs.Inside.Gaps.{Kept}
+-- What the payload of a set gives.
+use Rattle.std.specs.Prelude.{ℕ, Bool, false, ◌||◌, List, [], ◌∷◌, leb, ltb, length}
+use Rattle.base.specs.Tests.{◌when◌else◌}
+use Rattle.base.specs.Answers.{Answer, refused, done}
+use Rattle.base.specs.Parts.{over}
+use Rattle.codec.specs.Sets.{Regime, empty, sparse, bitmap, dense, Decoded, set, no_set}
 use Rattle.codec.specs.Records.{same}
 use Rattle.codec.specs.declared.sets.Kind.{Kind}
 use Rattle.codec.specs.declared.sets.Kind.TheVariants.{Empty, Sparse, Bitmap, Dense}
-use Rattle.codec.specs.declared.sets.Payload.{Payload}
 
 -- whether one of the ids behind x is not above the one before it
 unfoldable pub has_fall : ℕ → List ℕ → Bool
@@ -29,22 +28,11 @@ abbrev pub gives_set : Decoded → List ℕ → Bool
 gives_set (set js) ids = same js ids
 gives_set no_set ids = false
 
--- how many ids the payload's set has, and the bit place behind that number; or that it is the payload of no set
-abbrev pub PayloadOf : ℕ → List ℕ → Option Payload → Type 0
-PayloadOf N payload (Some p) =
-    ((xs : List ℕ) × (decode_set N payload ≡ set xs) × (p.count ≡ length xs))
-    × (read_delta (bits_of payload) ≡ got p.count (drop p.at (bits_of payload)))
-    × (p.at ≤ 8 * length payload)
-PayloadOf N payload None = decode_set N payload ≡ no_set
-
--- the ids that are coded as distances stand in the front of a buffer that has space for them
-abbrev pub KeptBy : Regime → ℕ → ℕ → List Bool → List ℕ → Type 0
-KeptBy empty N n bits room = Unit {0}
-KeptBy sparse N n bits room = Kept (read_gaps n 0 N bits) n room
-KeptBy bitmap N n bits room = Unit {0}
-KeptBy dense N n bits room = Kept (read_gaps (N - n) 0 N bits) (N - n) room
-
--- the same of what is found in a payload
-abbrev pub KeptOf : ℕ → List ℕ → Option Payload → List ℕ → Type 0
-KeptOf N payload (Some p) room = KeptBy (regime N p.count) N p.count (drop p.at (bits_of payload)) room
-KeptOf N payload None room = Unit {0}
+-- a payload's set to the front of a buffer: how many ids it has
+unfoldable pub put_set : Decoded → List ℕ → Answer × List ℕ
+-- 5, payload of no set
+put_set no_set out = (refused 5, out)
+put_set (set ids) out =
+    -- 3, output too short
+    (refused 3, out) when ltb (length out) (length ids) else
+    (done (length ids ∷ []), over ids out)

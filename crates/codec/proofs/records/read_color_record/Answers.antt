@@ -2,27 +2,38 @@
 use mathlib.Core.Path.{◌∙◌}
 use native.Mathlib.Omega.{arith}
 use Rattle.std.proofs.lemmas.Result.{err_from_is_err_and}
-use Rattle.base.proofs.Bools.{via}
 use Rattle.codec.proofs.Laws.Prefix.{prefix_behind}
-use Rattle.codec.proofs.Laws.Reading.{read_refused, read_up, read_whole}
-use Rattle.codec.proofs.Laws.Encoded.{good_colors}
+use Rattle.codec.proofs.Laws.Reading.{payload_cut, payload_put, read_refused, read_up, read_whole}
 use Rattle.codec.proofs.records.read_color_record.Goals as goal
 
-pub returns-then-bad_colors : goal.returns-then-bad_colors
-returns-then-bad_colors c =
-    read_refused c.args.n c.args.input.now c.args.ids.now (via c.bad_colors.ensures c.if-bad_colors.true)
+pub returns-in_err-colors : goal.returns-in_err-colors
+returns-in_err-colors c =
+    let p = err_from_is_err_and c.from_residual.result c.from_residual.ensures.1 in
+    let refused = c.in_err-colors.ensures.refused in
+    rw (p.1, p.2, refused.1) (read_refused c.args.n c.args.input.now c.args.ids.now refused.0)
 
 pub returns-in_err-value : goal.returns-in_err-value
 returns-in_err-value c =
-    let p = err_from_is_err_and c.from_residual.result c.from_residual.ensures.1 in
-    rw (p.1, p.2) (read_up c.args.n c.args.input.now c.args.ids.now (via c.bad_colors.ensures c.if-bad_colors.false) _ c.in_err-value.ensures)
+    let p = err_from_is_err_and c.from_residual-in_err-value.result c.from_residual-in_err-value.ensures.1 in
+    rw (p.1, p.2) (read_up c.args.n c.args.input.now c.args.ids.now c.in_ok-colors.ensures.taken.0 _ c.in_err-value.ensures)
 
-pub read_payload-requires : goal.read_payload-requires
-read_payload-requires c =
-    let b = prefix_behind c.args.input.now _ _ c.in_ok-value.ensures in
-    (b.1, omega (arith, b.2), (good_colors c.args.n (via c.bad_colors.ensures c.if-bad_colors.false)).1)
+pub returns-then-input-len : goal.returns-then-input-len
+returns-then-input-len c =
+    let input = c.args.input.now in
+    let b = prefix_behind input _ _ c.in_ok-value.ensures in
+    payload_cut c.args.n input _ _ c.args.ids.now b.1 c.if-input-len.true ∙ read_whole c.args.n input c.args.ids.now c.in_ok-colors.ensures.taken.0 _ _ b.0
+
+pub returns-in_err-items : goal.returns-in_err-items
+returns-in_err-items c =
+    let input = c.args.input.now in
+    let p = err_from_is_err_and c.from_residual-in_err-items.result c.from_residual-in_err-items.ensures.1 in
+    let b = prefix_behind input _ _ c.in_ok-value.ensures in
+    let put = rw (c.new-source.ensures, c.in_ok-colors.ensures.taken.1) at c.in_err-items.ensures in
+    rw (p.1, p.2) (payload_put c.args.n input _ _ c.args.ids.now b.1 (omega arith) _ put ∙ read_whole c.args.n input c.args.ids.now c.in_ok-colors.ensures.taken.0 _ _ b.0)
 
 pub returns : goal.returns
 returns c =
-    let b = prefix_behind c.args.input.now _ _ c.in_ok-value.ensures in
-    c.read_payload.ensures ∙ read_whole c.args.n c.args.input.now c.args.ids.now (via c.bad_colors.ensures c.if-bad_colors.false) c.in_ok-value.field-0.value c.in_ok-value.field-0.len b.0
+    let input = c.args.input.now in
+    let b = prefix_behind input _ _ c.in_ok-value.ensures in
+    let put = rw (c.new-source.ensures, c.in_ok-colors.ensures.taken.1) at c.in_ok-items.ensures in
+    payload_put c.args.n input _ _ c.args.ids.now b.1 (omega arith) _ put ∙ read_whole c.args.n input c.args.ids.now c.in_ok-colors.ensures.taken.0 _ _ b.0
