@@ -19,24 +19,18 @@ use crate::output::Output;
 use crate::replies::{Reply, Trouble};
 use std::io;
 
-fn answer(line: &Line, memory: &mut Memory, desk: &mut Desk) -> Result<Option<Reply>, Trouble> {
-    desk.obey(line.text()?, memory)
+fn answer(line: &Line, desk: &mut Desk) -> Result<Option<Reply>, Trouble> {
+    desk.obey(line.text()?)
 }
 
 // Nothing says that the input ends: the turns are counted, as in `next_line`.
-fn run(
-    input: &mut Input,
-    line: &mut Line,
-    memory: &mut Memory,
-    desk: &mut Desk,
-    out: &mut Output,
-) -> io::Result<()> {
+fn run(input: &mut Input, line: &mut Line, desk: &mut Desk, out: &mut Output) -> io::Result<()> {
     for _ in 0..u64::MAX {
         if !input.next_line(line, out)? {
             break;
         }
-        let told = answer(line, memory, desk);
-        say::say(told, line.number, memory, desk, out)?;
+        let told = answer(line, desk);
+        say::say(told, line.number, desk, out)?;
     }
     Ok(())
 }
@@ -55,16 +49,16 @@ fn main(rt: HostRuntime) -> io::Result<()> {
         bytes: [0; 786432],
         used: 0,
     };
-    let mut memory = Memory {
-        store: None,
-        records: [0; 1048576],
-        index: [0; 65536],
-        opened: [0; 32768],
-        held: [0; 32768],
-        runs: [0; 1048576],
-        table: [0; 32768],
-    };
     let mut desk = Desk {
+        memory: Memory {
+            store: None,
+            records: [0; 1048576],
+            index: [0; 65536],
+            opened: [0; 32768],
+            held: [0; 32768],
+            runs: [0; 1048576],
+            table: [0; 32768],
+        },
         ids: [0; 65536],
         piece: [0; 65536],
         space: [0; 393216],
@@ -74,5 +68,5 @@ fn main(rt: HostRuntime) -> io::Result<()> {
         used: 0,
         to: rt.stdout(),
     };
-    run(&mut input, &mut line, &mut memory, &mut desk, &mut out)
+    run(&mut input, &mut line, &mut desk, &mut out)
 }

@@ -1,7 +1,8 @@
 // The store, the memory that it works in, and its calls over as much of it as start said.
 use crate::replies::Trouble;
 use base::Refusal;
-use shell::fields::front;
+use shell::fields::{front, front_mut};
+use shell::lengths::Lengths;
 use shell::reasons::Fault;
 use store::state::{Store, Told, Way};
 
@@ -17,23 +18,6 @@ pub struct Memory {
     pub runs: [u8; 1048576],
     // two numbers for each of 16,384 unitigs
     pub table: [u64; 32768],
-}
-
-// How many elements of each buffer are to be used.
-#[derive(Clone, Copy)]
-pub struct Lengths {
-    pub records: usize,
-    pub index: usize,
-    pub opened: usize,
-    pub held: usize,
-    pub runs: usize,
-    pub table: usize,
-}
-
-// The first `count` elements, or as many as there are.
-fn front_mut<T>(xs: &mut [T], count: usize) -> &mut [T] {
-    let end = count.min(xs.len());
-    &mut xs[..end]
 }
 
 impl Memory {

@@ -1,17 +1,19 @@
 // What a line asks for, done.
-use crate::memory::{Lengths, Memory};
+use crate::memory::Memory;
 use crate::parse;
 use crate::replies::{Reply, Trouble, View};
 use codec::records::{read_color_record, write_color_record};
 use shell::commands::{Command, command_of};
-use shell::fields::front;
+use shell::fields::{front, front_mut};
 use shell::hexes::unhex;
+use shell::lengths::Lengths;
 use shell::reasons::Fault;
 use shell::words::Words;
 
-// Where the ids, the runs and the bytes of one line lie. Fixed buffers, as the store's: nothing is allocated.
+// The store with its memory, and where the ids, the runs and the bytes of one line lie. Fixed buffers, as the store's: nothing is allocated.
 #[derive(Drop)]
 pub struct Desk {
+    pub memory: Memory,
     pub ids: [u32; 65536],
     pub piece: [u64; 65536],
     pub space: [u8; 393216],
@@ -22,59 +24,42 @@ fn help(mut words: Words) -> Result<Reply, Trouble> {
     Ok(Reply::Help)
 }
 
-// records | index | unitigs | state
-fn view(view: View, mut words: Words, memory: &Memory) -> Result<Reply, Trouble> {
-    parse::end(&mut words)?;
-    Ok(Reply::View(view, memory.started()?))
-}
-
-// close NUMBER line · close NUMBER cycle PIVOT
-fn close(mut words: Words, memory: &mut Memory) -> Result<Reply, Trouble> {
-    memory.started()?;
-    let number = parse::number(&mut words)?;
-    let way = parse::way(&mut words)?;
-    Ok(Reply::Done(memory.close(number, way)?))
-}
-
 impl Desk {
     // A line without its comment. Where there is no word there is no reply.
-    pub(crate) fn obey(
-        &mut self,
-        line: &[u8],
-        memory: &mut Memory,
-    ) -> Result<Option<Reply>, Trouble> {
+    pub(crate) fn obey(&mut self, line: &[u8]) -> Result<Option<Reply>, Trouble> {
         let mut words = Words::of(line);
         let Some(name) = words.next() else {
             return Ok(None);
         };
         let command = command_of(name).ok_or(Fault::Unknown)?;
-        Ok(Some(self.reply(command, words, memory)?))
+        Ok(Some(self.reply(command, words)?))
     }
 
-    fn reply(
-        &mut self,
-        command: Command,
-        words: Words,
-        memory: &mut Memory,
-    ) -> Result<Reply, Trouble> {
+    fn reply(&mut self, command: Command, words: Words) -> Result<Reply, Trouble> {
         match command {
-            Command::Start => self.start(words, memory),
-            Command::Add => self.add(words, memory),
-            Command::Join => self.join(words, memory),
-            Command::Close => close(words, memory),
-            Command::Show => self.show(words, memory),
+            Command::Start => self.start(words),
+            Command::Add => self.add(words),
+            Command::Join => self.join(words),
+            Command::Close => self.close(words),
+            Command::Show => self.show(words),
             Command::Encode => self.encode(words),
             Command::Decode => self.decode(words),
-            Command::Records => view(View::Records, words, memory),
-            Command::Index => view(View::Index, words, memory),
-            Command::Unitigs => view(View::Unitigs, words, memory),
-            Command::State => view(View::State, words, memory),
+            Command::Records => self.view(View::Records, words),
+            Command::Index => self.view(View::Index, words),
+            Command::Unitigs => self.view(View::Unitigs, words),
+            Command::State => self.view(View::State, words),
             Command::Help => help(words),
         }
     }
 
+    // records | index | unitigs | state
+    fn view(&self, view: View, mut words: Words) -> Result<Reply, Trouble> {
+        parse::end(&mut words)?;
+        Ok(Reply::View(view, self.memory.started()?))
+    }
+
     // start N W RECORDS INDEX OPEN HELD RUNS TABLE
-    fn start(&mut self, words: Words, memory: &mut Memory) -> Result<Reply, Trouble> {
+    fn start(&mut self, words: Words) -> Result<Reply, Trouble> {
         let count = words.values(&mut self.ids)?;
         let given = front(&self.ids, count);
         let [colors, worker, records, index, opened, held, runs, table] = given else {
@@ -85,40 +70,42 @@ impl Desk {
             };
             return Err(Trouble::Wrong(fault));
         };
-        let lengths = Lengths {
-            records: *records as usize,
-            index: *index as usize,
-            opened: *opened as usize,
-            held: *held as usize,
-            runs: *runs as usize,
-            table: *table as usize,
-        };
-        memory.start(*colors, *worker, lengths)?;
+        let lengths = Lengths::from([*records, *index, *opened, *held, *runs, *table]);
+        self.memory.start(*colors, *worker, lengths)?;
         Ok(Reply::Done(0))
     }
 
     // add NUMBER [ID..]
-    fn add(&mut self, mut words: Words, memory: &mut Memory) -> Result<Reply, Trouble> {
-        memory.started()?;
+    fn add(&mut self, mut words: Words) -> Result<Reply, Trouble> {
+        self.memory.started()?;
         let number = parse::number(&mut words)?;
         let count = words.values(&mut self.ids)?;
-        Ok(Reply::Done(memory.add(number, front(&self.ids, count))?))
+        let ids = front(&self.ids, count);
+        Ok(Reply::Done(self.memory.add(number, ids)?))
     }
 
     // join NUMBER COUNT forward|reverse OFFSET:COORDINATE..
-    fn join(&mut self, mut words: Words, memory: &mut Memory) -> Result<Reply, Trouble> {
-        memory.started()?;
+    fn join(&mut self, mut words: Words) -> Result<Reply, Trouble> {
+        self.memory.started()?;
         let number = parse::number(&mut words)?;
         let n = parse::number(&mut words)?;
         let reversed = parse::is_reversed(&mut words)?;
         let count = words.values(&mut self.piece)?;
         let piece = front(&self.piece, count);
-        Ok(Reply::Done(memory.join(number, n, reversed, piece)?))
+        Ok(Reply::Done(self.memory.join(number, n, reversed, piece)?))
+    }
+
+    // close NUMBER line · close NUMBER cycle PIVOT
+    fn close(&mut self, mut words: Words) -> Result<Reply, Trouble> {
+        self.memory.started()?;
+        let number = parse::number(&mut words)?;
+        let way = parse::way(&mut words)?;
+        Ok(Reply::Done(self.memory.close(number, way)?))
     }
 
     // show UNITIG VERTEX [ROOM]
-    fn show(&mut self, words: Words, memory: &mut Memory) -> Result<Reply, Trouble> {
-        memory.started()?;
+    fn show(&mut self, words: Words) -> Result<Reply, Trouble> {
+        self.memory.started()?;
         let all = self.ids.len();
         let count = words.values(&mut self.ids)?;
         let (unitig, vertex, room) = match front(&self.ids, count) {
@@ -130,7 +117,8 @@ impl Desk {
         if all < room {
             return Err(Trouble::Wrong(Fault::Length));
         }
-        let given = memory.show(unitig, vertex, &mut self.ids[..room])?;
+        let ids = front_mut(&mut self.ids, room);
+        let given = self.memory.show(unitig, vertex, ids)?;
         Ok(Reply::Ids(given as usize))
     }
 

@@ -1,6 +1,5 @@
 // A reply as text.
 use crate::help::HELP;
-use crate::memory::Memory;
 use crate::orders::Desk;
 use crate::output::Output;
 use crate::replies::{Reply, Trouble, View};
@@ -37,22 +36,16 @@ fn wrong(f: Fault, line: u64, out: &mut Output) -> io::Result<()> {
     out.text(b"\n")
 }
 
-fn view(
-    view: View,
-    store: Store,
-    memory: &Memory,
-    desk: &mut Desk,
-    out: &mut Output,
-) -> io::Result<()> {
+fn view(view: View, store: Store, desk: &mut Desk, out: &mut Output) -> io::Result<()> {
     match view {
-        View::Records => views::records(store, memory, out),
-        View::Index => views::index(store, memory, out),
-        View::Unitigs => views::unitigs(store, memory, &mut desk.piece, out),
+        View::Records => views::records(store, &desk.memory, out),
+        View::Index => views::index(store, &desk.memory, out),
+        View::Unitigs => views::unitigs(store, &desk.memory, &mut desk.piece, out),
         View::State => views::state(store, out),
     }
 }
 
-fn reply(reply: Reply, memory: &Memory, desk: &mut Desk, out: &mut Output) -> io::Result<()> {
+fn reply(reply: Reply, desk: &mut Desk, out: &mut Output) -> io::Result<()> {
     match reply {
         Reply::Done(value) => {
             out.named(b"ok ", value)?;
@@ -64,7 +57,7 @@ fn reply(reply: Reply, memory: &Memory, desk: &mut Desk, out: &mut Output) -> io
             out.hex(front(&desk.space, len))?;
             out.text(b"\n")
         }
-        Reply::View(shown, store) => view(shown, store, memory, desk, out),
+        Reply::View(shown, store) => view(shown, store, desk, out),
         Reply::Help => out.text(HELP),
     }
 }
@@ -72,13 +65,12 @@ fn reply(reply: Reply, memory: &Memory, desk: &mut Desk, out: &mut Output) -> io
 pub(crate) fn say(
     told: Result<Option<Reply>, Trouble>,
     line: u64,
-    memory: &Memory,
     desk: &mut Desk,
     out: &mut Output,
 ) -> io::Result<()> {
     match told {
         Ok(None) => Ok(()),
-        Ok(Some(given)) => reply(given, memory, desk, out),
+        Ok(Some(given)) => reply(given, desk, out),
         Err(Trouble::Refused(r)) => refused(r, out),
         Err(Trouble::Wrong(f)) => wrong(f, line, out),
     }

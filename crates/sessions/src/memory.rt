@@ -1,7 +1,7 @@
 // What a session runs in: the six buffers, and what is told of its calls.
 use crate::session::Session;
 use crate::texts::{Hex, Numbers};
-use base::Refusal;
+use base::{Refusal, code_of};
 use std::alloc::{AllocError, Global};
 use std::io;
 use std::io::Write;
@@ -82,7 +82,7 @@ impl Memory {
 
     // What was answered, and what the output and the buffers hold.
     pub fn print(&self, start: Result<(), Refusal>, out: &mut impl Write) -> io::Result<()> {
-        writeln!(out, "start {}", start.map_or_else(u32::from, |_| 0))?;
+        writeln!(out, "start {}", code_of(&start))?;
         for (refusal, answer) in self.refusals.iter().zip(&self.answers) {
             writeln!(out, "{refusal} {answer}")?;
         }

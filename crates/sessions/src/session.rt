@@ -1,4 +1,5 @@
 // A session as its four lines say it.
+use shell::lengths::Lengths;
 use shell::lists::Word;
 use shell::words::Words;
 use std::alloc::{AllocError, Global};
@@ -25,17 +26,6 @@ impl Head {
         let line = lines.first().copied().unwrap_or(b"");
         let _ = Words::of(line).values(&mut self.numbers);
     }
-}
-
-// How long each buffer is.
-#[derive(Clone, Copy, Debug)]
-pub(crate) struct Lengths {
-    pub records: usize,
-    pub index: usize,
-    pub opened: usize,
-    pub held: usize,
-    pub runs: usize,
-    pub table: usize,
 }
 
 #[derive(Debug, Drop)]

@@ -4,6 +4,7 @@ pub mod Pairs
 pub mod Hexes
 pub mod Lists
 pub mod Words
+pub mod Lengths
 pub mod Digits
 pub mod Texts
 pub mod Commands

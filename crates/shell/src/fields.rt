@@ -32,6 +32,15 @@ pub fn front<T>(xs: &[T], count: usize) -> &[T]
     &xs[..count.min(xs.len())]
 }
 
+// The same, lent to be written. No clause says how the list goes on behind what is written there: the check shows that of a call's whole result
+// alone, and not of a part.
+pub fn front_mut<T>(xs: &mut [T], count: usize) -> &mut [T]
+    ensures { result.now ≡ take count xs.old }
+{
+    let end = count.min(xs.len());
+    &mut xs[..end]
+}
+
 // Where the first byte stands that is no blank.
 fn word_start(text: &[u8]) -> Option<usize>
     ensures { result ≡ position (λ b. not (is_blank b)) text.now }

@@ -1,6 +1,6 @@
 // Decimal numbers.
-ghost use Rattle.std.specs.Prelude.{◌≡◌, ◌<◌, ◌≤◌, IfOk, IfSome};
-ghost use Rattle.shell.specs.Numbers.{digit_of, decimal_of, fault_of_number};
+ghost use Rattle.std.specs.Prelude.{◌≡◌, ◌≤◌, IfOk};
+ghost use Rattle.shell.specs.Numbers.{decimal_of, fault_of_number};
 
 use crate::reasons::Fault;
 
@@ -25,18 +25,6 @@ impl NumberError {
     }
 }
 
-// What a digit says.
-#[tactic(auto, using(std::proofs::lemmas::Bool::Decides::nat_tests), unfolding(crate::specs::Numbers::digit_of))]
-fn digit_of(b: u8) -> Option<u8>
-    ensures said { result ≡ digit_of b }
-    ensures within { IfSome result (λ d. d < 10) }
-{
-    match b {
-        b'0'..=b'9' => Some(b - b'0'),
-        _ => None,
-    }
-}
-
 // The number that a text says, if it is at most `most`.
 pub(crate) fn number_to(text: &[u8], most: u64) -> Result<u64, NumberError>
     requires { most ≤ 1000000000000000000 }
@@ -48,7 +36,7 @@ pub(crate) fn number_to(text: &[u8], most: u64) -> Result<u64, NumberError>
     }
     let mut value: u64 = 0;
     for b in text {
-        let Some(digit) = digit_of(*b) else {
+        let Some(digit) = char::from(*b).to_digit(10) else {
             return Err(NumberError::Bad);
         };
         value = value * 10 + u64::from(digit);

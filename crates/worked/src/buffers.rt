@@ -1,5 +1,6 @@
 // The memory of a run.
-use shell::fields::front;
+use shell::fields::{front, front_mut};
+use shell::lengths::Lengths;
 use std::alloc::{AllocError, Global};
 
 // How many places a buffer of bytes has, and one of words or ids.
@@ -29,8 +30,7 @@ impl<T: Copy + PartialEq + From<u8>> Buffer<T> {
     }
 
     pub fn front_mut(&mut self) -> &mut [T] {
-        let end = self.lent.min(self.places.len());
-        &mut self.places[..end]
+        front_mut(&mut self.places, self.lent)
     }
 
     // Writes one place, where the buffer has it.
@@ -67,19 +67,8 @@ pub(crate) struct Buffers {
     pub table: Buffer<u64>,
 }
 
-// How much of each is lent.
-#[derive(Clone, Copy, Debug, Default)]
-pub(crate) struct Lengths {
-    pub records: usize,
-    pub index: usize,
-    pub opened: usize,
-    pub held: usize,
-    pub runs: usize,
-    pub table: usize,
-}
-
 impl Buffers {
-    // With 9 at each place.
+    // With 9 at each place, and so much of each lent.
     pub fn of(alloc: Global, lent: Lengths) -> Result<Self, AllocError> {
         Ok(Buffers {
             records: Buffer::filled(alloc, BYTES, 9, lent.records)?,

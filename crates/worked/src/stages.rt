@@ -1,8 +1,8 @@
 // A store anew, and one after a few calls, over buffers that hold 9 at each place.
 use crate::args::{StepError, list};
 use crate::bench::Bench;
-use crate::buffers::Lengths;
 use crate::replies::Reply;
+use shell::lengths::Lengths;
 use shell::reasons::Fault;
 use shell::words::Words;
 use store::state::Way;
@@ -14,14 +14,7 @@ impl Bench {
         let [colors, worker, records, index, opened, held, runs, table] = numbers.as_slice() else {
             return Err(StepError::Words(Fault::Missing));
         };
-        let lent = Lengths {
-            records: *records as usize,
-            index: *index as usize,
-            opened: *opened as usize,
-            held: *held as usize,
-            runs: *runs as usize,
-            table: *table as usize,
-        };
+        let lent = Lengths::from([*records, *index, *opened, *held, *runs, *table]);
         Ok(self.state.start(self.alloc, *colors, *worker, lent)?)
     }
 

@@ -1,6 +1,7 @@
 // A store over its buffers, and its calls: what each answers, and whether it left the state and the buffers as they were.
-use crate::buffers::{Buffer, Buffers, EIGHT, Lengths, WORDS};
+use crate::buffers::{Buffer, Buffers, EIGHT, WORDS};
 use crate::replies::{Reply, Said};
+use shell::lengths::Lengths;
 use std::alloc::{AllocError, Global};
 use store::state::{Store, Told, Way};
 

@@ -6,6 +6,9 @@ use Rattle.shell.proofs.Laws.Positions.{rest_whole}
 use Rattle.base.proofs.Tests.{when_yes, when_no}
 use Rattle.shell.specs.declared.reasons.Fault.{Fault}
 use Rattle.shell.specs.declared.reasons.Fault.TheVariants.{Hex, Many}
+use Rattle.std.specs.Char.{digit_value}
+use Rattle.std.specs.Option.{SomeIff}
+use Rattle.std.proofs.lemmas.Bool.Decides.{nat_tests}
 use Rattle.shell.specs.Hexes.{digit_of, byte_into, unhex_at}
 
 pub none : (k : ℕ) (out : List ℕ) → unhex_at [] k out ≡ (Ok k, out)
@@ -19,6 +22,12 @@ single x k out = refl
 pub double : (x y : ℕ) (rest : List ℕ) (k : ℕ) (out : List ℕ) → unhex_at (x ∷ y ∷ rest) k out ≡ byte_into (digit_of x) (digit_of y) k out (unhex_at rest)
 unfolding unhex_at
 double x y rest k out = refl
+
+-- std's digit of base 16 is the specification's
+pub digit_is : (b x : ℕ) (r : Option ℕ) → x ≡ b → SomeIff r (digit_value x < 16) (digit_value x) → r ≡ digit_of b
+unfolding digit_of
+digit_is b x None e h = grind (arith, nat_tests)
+digit_is b x (Some d) e h = grind (arith, nat_tests)
 
 two : (xs : List ℕ) (k : ℕ) (out : List ℕ) → 2 ≤ length xs → unhex_at xs k out ≡ byte_into (digit_of (get_or xs 0 0)) (digit_of (get_or xs 1 0)) k out (unhex_at (drop 2 xs))
 two [] k out h = absurd (omega arith)

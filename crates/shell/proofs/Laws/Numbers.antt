@@ -11,6 +11,9 @@ use borrow.Author.Tests.{lt-ltb, le-ltb, eqb-true}
 use Rattle.base.proofs.Tests.{when_yes, when_no}
 use Rattle.shell.specs.declared.numbers.NumberError.TheVariants.{Bad, Large}
 use Rattle.std.specs.Prelude.{Option, Some, None, Ok, Err}
+use Rattle.std.specs.Char.{digit_value}
+use Rattle.std.specs.Option.{SomeIff}
+use Rattle.std.proofs.lemmas.Bool.Decides.{nat_tests}
 use Rattle.shell.specs.Numbers.{digit_of, digit_into, number_from, decimal_of}
 
 pub number_none : (most : ℕ) (xs : List ℕ) → true ≡ (length xs == 0) → Err Bad ≡ decimal_of most xs
@@ -30,6 +33,12 @@ from_none most v = refl
 pub from_cons : (most v b : ℕ) (bs : List ℕ) → number_from most v (b ∷ bs) ≡ digit_into most v (digit_of b) (λ w. number_from most w bs)
 unfolding number_from
 from_cons most v b bs = refl
+
+-- std's digit of base 10 is the specification's
+pub digit_is : (b x : ℕ) (r : Option ℕ) → x ≡ b → SomeIff r (digit_value x < 10) (digit_value x) → r ≡ digit_of b
+unfolding digit_of
+digit_is b x None e h = grind (arith, nat_tests)
+digit_is b x (Some d) e h = grind (arith, nat_tests)
 
 module _ (most : ℕ) (xs : List ℕ) (v i : ℕ) (k : decimal_of most xs ≡ number_from most v (drop i xs)) where
   module _ (h : i < length xs) (r : Option ℕ) (e : r ≡ digit_of (get_or xs i 0)) where
