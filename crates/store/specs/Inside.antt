@@ -2,5 +2,7 @@
 pub mod Places
 pub mod Lent
 pub mod Fits
+pub mod Gates
+pub mod Meeting
 pub mod Closing
 pub mod Showing

@@ -1,86 +1,52 @@
 // Add: one set more in a cell's record file.
-ghost use Rattle.std.specs.Prelude.{◌≡◌, false, ◌≤◌, length};
-ghost use Rattle.codec.specs.Records.{bad_colors};
+// `as` stands where no `From` leads, from u32 to usize and from there to u64: what it converts is proved to fit.
+ghost use Rattle.std.specs.Prelude.{◌≡◌, length};
 ghost use Rattle.store.specs.State.{bufs, of_answer};
-ghost use Rattle.store.specs.Numbered.{numbered};
 ghost use Rattle.store.specs.Add.{unitig_open, no_space, same_add, add_test, add_filed, add_cell, add_step};
 ghost use Rattle.store.specs.Inside.Fits.{AddFits, AddReady};
 
+use crate::filed::Filed;
 use crate::lengths::Lengths;
-use crate::numbered;
-use crate::numbered::Sequence;
 use crate::state::{Cell, Current, Extent, Last, Store, Told};
 use base::Refusal;
 
 impl Cell {
-    // Whether the last call was an add of these ids.
-    #[tactic(auto, unfolding(crate::specs::Add::same_add))]
-    fn is_last_add(self, colors: u32, ids: &[u32], records: &[u8], index: &[u64]) -> bool
-        requires { AddFits colors self (length records.now) (length index.now) }
-        ensures { result ≡ same_add colors self records.now index.now self.last ids.now }
-    {
-        self.last == Last::Add && self.names_set(colors, self.answer, ids, records, index)
-    }
-
     #[tactic(auto, unfolding(crate::specs::Add::unitig_open))]
     fn is_open(self) -> bool
         ensures { result ≡ unitig_open self.current }
     {
         self.current != Current::Nothing
     }
+}
 
+impl Filed<'_> {
     // Whether a record of so many bytes, or its index entry, doesn't fit.
     #[tactic(auto, using(base::proofs::Tests::tests), unfolding(crate::specs::Add::no_space))]
     fn no_space(self, len: usize) -> bool
-        requires { self.records.used ≤ self.records.length }
-        ensures { result ≡ no_space self len }
+        ensures { result ≡ no_space self.entry.cell len }
     {
-        let sets = self.sets as usize;
-        self.records.length - self.records.used < len || self.index < sets + 2
+        let sets = self.cell.sets as usize;
+        self.cell.records.length - self.cell.records.used < len || self.cell.index < sets + 2
     }
 
     // Refusal 12, a unitig is open; 2, ids that are no set; 3, no space.
     #[tactic(auto, using(base::proofs::Tests::tests), unfolding(crate::specs::Add::add_test, codec::specs::Records::record_length))]
-    fn add_test(self, colors: u32, ids: &[u32]) -> Result<(), Refusal>
-        requires { (self.records.used ≤ self.records.length) × (bad_colors colors ≡ false) }
-        ensures { result ≡ add_test colors self ids.now }
+    fn add_test(self, ids: &[u32]) -> Result<(), Refusal>
+        ensures { result ≡ add_test self.entry.colors self.entry.cell ids.now }
     {
-        if self.is_open() {
+        if self.cell.is_open() {
             return Err(Refusal::Opened);
         }
         // the colours are within their limits, so that it can only refuse the ids
-        let len = codec::records::color_record_len(colors, ids)?;
+        let len = codec::records::color_record_len(self.colors, ids)?;
         if self.no_space(len) {
             return Err(Refusal::Space);
         }
         Ok(())
     }
+}
 
-    // All tests of an add but 15: the answer of the call that it repeats, or none where it is new.
-    #[tactic(auto, unfolding(crate::specs::Numbered::numbered, crate::specs::Numbered::by_sequence, crate::specs::Numbered::tested))]
-    fn add_gate(
-        self,
-        colors: u32,
-        number: u32,
-        ids: &[u32],
-        records: &[u8],
-        index: &[u64],
-    ) -> Result<Option<u64>, Refusal>
-        requires { AddFits colors self (length records.now) (length index.now) }
-        ensures { result ≡ numbered self number (same_add colors self records.now index.now self.last ids.now) (add_test colors self ids.now) }
-    {
-        match self.sequence(number)? {
-            Sequence::Repeat => numbered::repeated(
-                self.is_last_add(colors, ids, records, index),
-                self.answer,
-            ),
-            Sequence::New => {
-                self.add_test(colors, ids)?;
-                Ok(None)
-            }
-        }
-    }
-
+impl Cell {
     // The record behind the used bytes, its end in the index, and the new state.
     fn file_set(
         self,
@@ -117,7 +83,7 @@ impl Cell {
     }
 
     // A set joins the accepted ones; answers its coordinate. Refusals 10, 11, 12, 2, 3, in this order.
-    #[tactic(auto, unfolding(crate::specs::Add::add_cell, crate::specs::Numbered::by_gate))]
+    #[tactic(auto, unfolding(crate::specs::Add::same_add))]
     fn add(
         self,
         colors: u32,
@@ -129,16 +95,20 @@ impl Cell {
         requires { AddFits colors self (length records.old) (length index.old) }
         ensures { (of_answer result.answer, result.state, records.new, index.new) ≡ add_cell colors self number ids.now records.old index.old }
     {
-        match self.add_gate(colors, number, ids, records, index) {
-            Err(r) => Told {
+        let filed = Filed::of(self, colors, records, index);
+        let same = ||
+            ensures { result ≡ same_add filed.entry.colors filed.entry.cell filed.entry.file.now filed.entry.index.now filed.entry.cell.last ids.entry.now }
+        { filed.cell.last == Last::Add && filed.names_set(filed.cell.answer, ids) };
+        let test = ||
+            ensures { result ≡ add_test filed.entry.colors filed.entry.cell ids.entry.now }
+        { filed.add_test(ids) };
+        let gate = self.gate(number, same, test);
+        match gate.transpose() {
+            Some(answer) => Told {
                 state: self,
-                answer: Err(r),
+                answer,
             },
-            Ok(Some(again)) => Told {
-                state: self,
-                answer: Ok(again),
-            },
-            Ok(None) => self.file_set(colors, number, ids, records, index),
+            None => self.file_set(colors, number, ids, records, index),
         }
     }
 }

@@ -1,4 +1,5 @@
 // What every call after start tests first (15), and the limits of start.
+// `as` stands where no `From` leads, from u32 to usize.
 ghost use Rattle.std.specs.Prelude.{◌≡◌};
 ghost use Rattle.store.specs.Start.{too_long};
 ghost use Rattle.store.specs.Altered.{altered_buffer, bad_vertices, bad_current, altered_cell, altered_shared, altered};
@@ -36,7 +37,7 @@ impl Extent {
 impl Current {
     // An open unitig of a bad vertex count.
     #[tactic(auto, unfolding(crate::specs::Altered::bad_current))]
-    fn bad(self) -> bool
+    fn is_bad(self) -> bool
         ensures { result ≡ bad_current self }
     {
         match self {
@@ -60,7 +61,7 @@ impl Cell {
             || self.opened.altered(now.opened)
             || self.held.altered(now.held)
             || 255 < self.worker
-            || self.current.bad()
+            || self.current.is_bad()
     }
 }
 

@@ -1,34 +1,31 @@
 // Join: a piece behind a cell's open unitig, or the first of a new one.
-ghost use Rattle.std.specs.Prelude.{◌≡◌, ◌<◌, ◌≤◌, length, take};
-ghost use Rattle.runs.specs.Reverse.{oriented};
+// `as` stands once: no `From` leads from u64 to u32, and the count is proved to fit.
+ghost use Rattle.std.specs.Prelude.{◌≡◌, ◌<◌, length};
 ghost use Rattle.store.specs.State.{bufs, of_answer};
-ghost use Rattle.store.specs.Numbered.{numbered};
-ghost use Rattle.store.specs.Join.{all_named, same_join, open_count, open_at, open_new, open_test, open_space, join_test, join_filed, join_cell, join_step};
+ghost use Rattle.store.specs.Join.{all_named, same_join, open_count, open_at, open_space, join_test, join_filed, join_cell, join_step};
 ghost use Rattle.store.specs.Inside.Fits.{JoinFits, JoinReady, OpenReady, open_after};
+ghost use Rattle.store.specs.Inside.Meeting.{meet_test};
 
 use crate::lengths::Lengths;
-use crate::numbered;
-use crate::numbered::Sequence;
+use crate::opened::OpenRuns;
 use crate::state::{Cell, Current, Extent, Last, Store, Told};
 use base::Refusal;
 
-impl Cell {
-    // Whether every coordinate of a piece names a set.
-    fn all_named(self, piece: &[u64]) -> bool
-        ensures { result ≡ all_named self.worker self.sets piece.now }
-    {
-        piece
-            .iter()
-            .all(|run| !self.unnamed(runs::words::coordinate(*run)))
-    }
+// The list that a call sends: so many vertices, to be read either way.
+#[derive(Clone, Copy)]
+struct Piece<'a> {
+    n: u32,
+    reversed: bool,
+    runs: &'a [u64],
+}
 
-    // Whether the last call was a join of this piece.
-    #[tactic(auto, using(crate::proofs::Laws::Joining::same_slices), unfolding(crate::specs::Join::same_join, crate::specs::Join::alike))]
-    fn is_last_join(self, n: u32, reversed: bool, piece: &[u64], held: &[u64]) -> bool
-        requires { self.held.used ≤ length held.now }
-        ensures { result ≡ same_join self.held.used held.now self.last n reversed piece.now }
+impl Cell {
+    // Whether every coordinate of a list names a set.
+    fn all_named(self, runs: &[u64]) -> bool
+        ensures { result ≡ all_named self.worker self.sets runs.now }
     {
-        self.last == Last::Join { n, reversed } && self.held.part(held) == piece
+        runs.iter()
+            .all(|run| !self.unnamed(runs::words::coordinate(*run)))
     }
 
     // The vertex count with a piece of n more.
@@ -38,8 +35,8 @@ impl Cell {
         ensures { result ≡ open_count self.current n }
     {
         match self.current {
-            Current::Nothing => n as u64,
-            Current::Open(m) => m as u64 + n as u64 - 1,
+            Current::Nothing => u64::from(n),
+            Current::Open(m) => u64::from(m) + u64::from(n) - 1,
         }
     }
 
@@ -53,15 +50,16 @@ impl Cell {
             Current::Open(_) => self.opened.used,
         }
     }
+}
 
+impl OpenRuns<'_> {
     // Refusal 3, no space for the open runs or the held piece.
     #[tactic(auto, using(base::proofs::Tests::tests), unfolding(crate::specs::Join::open_space, crate::specs::Join::open_at))]
     fn open_space(self, new: usize, held: usize) -> Result<(), Refusal>
-        requires { self.opened.used ≤ self.opened.length }
-        ensures { result ≡ open_space self new held }
+        ensures { result ≡ open_space self.entry.cell new held }
     {
-        let at = self.open_at();
-        if self.opened.length - at < new || self.held.length < held {
+        let at = self.cell.open_at();
+        if self.cell.opened.length - at < new || self.cell.held.length < held {
             return Err(Refusal::Space);
         }
         Ok(())
@@ -69,96 +67,66 @@ impl Cell {
 
     // With an open unitig of m vertices: refusal 5, its runs not sharp; 8, the piece begins elsewhere; 3, no space.
     #[tactic(auto, using(base::proofs::Tests::tests, crate::proofs::Laws::Joining::new_runs, runs::proofs::Laws::Reverse::oriented_long), unfolding(crate::specs::Join::open_test))]
-    fn meet_open(
-        self,
-        m: u32,
-        n: u32,
-        reversed: bool,
-        piece: &[u64],
-        opened: &[u64],
-    ) -> Result<(), Refusal>
-        requires { (self.current ≡ Current.Open m) × (self.opened.used ≤ length opened.now) × (self.opened.used ≤ self.opened.length) × (0 < length piece.now) }
-        ensures { result ≡ open_test self.current (take self.opened.used opened.now) (oriented reversed n piece.now) (open_space self (length (open_new self.current (take self.opened.used opened.now) (oriented reversed n piece.now))) (length piece.now)) }
+    fn meet_open(self, m: u32, piece: Piece) -> Result<(), Refusal>
+        requires { (self.cell.current ≡ Current.Open m) × (0 < length piece.runs.now) }
+        ensures { result ≡ meet_test self.entry.cell self.entry.runs.now piece.entry.n piece.entry.reversed piece.entry.runs.now }
     {
-        let open = self.opened.part(opened);
-        if !runs::orders::is_sharp(open, m) {
+        let Piece { n, reversed, runs } = piece;
+        if !runs::orders::is_sharp(self.runs, m) {
             return Err(Refusal::Damaged);
         }
-        if runs::orders::last_coordinate(open)
-            != runs::reverse::first_coordinate(piece, n, reversed)
+        if runs::orders::last_coordinate(self.runs)
+            != runs::reverse::first_coordinate(runs, n, reversed)
         {
             return Err(Refusal::Junction);
         }
-        self.open_space(piece.len() - 1, piece.len())
+        self.open_space(runs.len() - 1, runs.len())
     }
 
     // Refusals 5, 8 where a unitig is open; then 3, no space.
     #[tactic(auto, using(base::proofs::Tests::tests, runs::proofs::Laws::Reverse::oriented_long), unfolding(crate::specs::Join::open_test, crate::specs::Join::open_new))]
-    fn meet(self, n: u32, reversed: bool, piece: &[u64], opened: &[u64]) -> Result<(), Refusal>
-        requires { (self.opened.used ≤ length opened.now) × (self.opened.used ≤ self.opened.length) × (0 < length piece.now) }
-        ensures { result ≡ open_test self.current (take self.opened.used opened.now) (oriented reversed n piece.now) (open_space self (length (open_new self.current (take self.opened.used opened.now) (oriented reversed n piece.now))) (length piece.now)) }
+    fn meet(self, piece: Piece) -> Result<(), Refusal>
+        requires { 0 < length piece.runs.now }
+        ensures { result ≡ meet_test self.entry.cell self.entry.runs.now piece.entry.n piece.entry.reversed piece.entry.runs.now }
     {
-        match self.current {
-            Current::Nothing => self.open_space(piece.len(), piece.len()),
-            Current::Open(m) => self.meet_open(m, n, reversed, piece, opened),
+        match self.cell.current {
+            Current::Nothing => self.open_space(piece.runs.len(), piece.runs.len()),
+            Current::Open(m) => self.meet_open(m, piece),
         }
     }
 
     // Refusal 7, vertex count; 6, not sharp; 9, a coordinate that names no set; then 5, 8, 3.
-    #[tactic(auto, using(base::proofs::Tests::tests, crate::proofs::Laws::Joining::some_runs), unfolding(crate::specs::Join::join_test))]
-    fn join_test(self, n: u32, reversed: bool, piece: &[u64], opened: &[u64]) -> Result<(), Refusal>
-        requires { (self.opened.used ≤ length opened.now) × (self.opened.used ≤ self.opened.length) }
-        ensures { result ≡ join_test self opened.now n reversed piece.now }
+    #[tactic(auto, using(base::proofs::Tests::tests, crate::proofs::Laws::Joining::some_runs, crate::proofs::Laws::Parts::take_whole), unfolding(crate::specs::Join::join_test))]
+    fn join_test(self, piece: Piece) -> Result<(), Refusal>
+        ensures { result ≡ join_test self.entry.cell self.entry.runs.now piece.entry.n piece.entry.reversed piece.entry.runs.now }
     {
-        if n == 0 || 16777215 < self.new_count(n) {
+        if piece.n == 0 || 16777215 < self.cell.new_count(piece.n) {
             return Err(Refusal::Vertices);
         }
-        if !runs::orders::is_sharp(piece, n) {
+        if !runs::orders::is_sharp(piece.runs, piece.n) {
             return Err(Refusal::Runs);
         }
-        if !self.all_named(piece) {
+        if !self.cell.all_named(piece.runs) {
             return Err(Refusal::Coordinate);
         }
-        self.meet(n, reversed, piece, opened)
+        self.meet(piece)
     }
+}
 
-    // All tests of a join but 15: the answer of the call that it repeats, or none where it is new.
-    #[tactic(auto, unfolding(crate::specs::Numbered::numbered, crate::specs::Numbered::by_sequence, crate::specs::Numbered::tested))]
-    fn join_gate(
-        self,
-        number: u32,
-        n: u32,
-        reversed: bool,
-        piece: &[u64],
-        opened: &[u64],
-        held: &[u64],
-    ) -> Result<Option<u64>, Refusal>
-        requires { JoinFits self (length opened.now) (length held.now) }
-        ensures { result ≡ numbered self number (same_join self.held.used held.now self.last n reversed piece.now) (join_test self opened.now n reversed piece.now) }
-    {
-        match self.sequence(number)? {
-            Sequence::Repeat => {
-                numbered::repeated(self.is_last_join(n, reversed, piece, held), self.answer)
-            }
-            Sequence::New => {
-                self.join_test(n, reversed, piece, opened)?;
-                Ok(None)
-            }
-        }
-    }
-
+impl Cell {
     // The new open runs, and how many there are then.
-    fn put_open(self, n: u32, reversed: bool, piece: &[u64], opened: &mut [u64]) -> usize
-        requires { OpenReady self n reversed piece.now opened.old }
-        ensures { (result, opened.new) ≡ open_after self n reversed piece.now opened.old }
+    fn put_open(self, piece: Piece, opened: &mut [u64]) -> usize
+        requires { OpenReady self piece.n piece.reversed piece.runs.now opened.old }
+        ensures { (result, opened.new) ≡ open_after self piece.entry.n piece.entry.reversed piece.entry.runs.now opened.old }
     {
+        let Piece { n, reversed, runs } = piece;
         match self.current {
             Current::Nothing => {
-                runs::reverse::orient_color_runs(piece, n, reversed, opened).unwrap()
+                runs::reverse::orient_color_runs(runs, n, reversed, opened).unwrap()
             }
             Current::Open(m) => {
                 let used = self.opened.used;
-                let appended = runs::append::append_color_runs(opened, used, m, piece, n, reversed);
+                let appended = runs::append::append_color_runs(opened, used, m, runs, n, reversed);
                 appended.unwrap().runs
             }
         }
@@ -168,17 +136,16 @@ impl Cell {
     fn join_piece(
         self,
         number: u32,
-        n: u32,
-        reversed: bool,
-        piece: &[u64],
+        piece: Piece,
         opened: &mut [u64],
         held: &mut [u64],
     ) -> Told<Cell, u64>
-        requires { JoinReady self n reversed piece.now opened.old (length held.old) }
-        ensures { (of_answer result.answer, result.state, opened.new, held.new) ≡ join_filed self number n reversed piece.now opened.old held.old }
+        requires { JoinReady self piece.n piece.reversed piece.runs.now opened.old (length held.old) }
+        ensures { (of_answer result.answer, result.state, opened.new, held.new) ≡ join_filed self number piece.entry.n piece.entry.reversed piece.entry.runs.now opened.old held.old }
     {
-        let total = self.put_open(n, reversed, piece, opened);
-        let kept = runs::reverse::orient_color_runs(piece, n, false, held).unwrap();
+        let Piece { n, reversed, runs } = piece;
+        let total = self.put_open(piece, opened);
+        let kept = runs::reverse::orient_color_runs(runs, n, false, held).unwrap();
         let count = self.new_count(n);
         let state = Cell {
             opened: Extent {
@@ -202,29 +169,35 @@ impl Cell {
     }
 
     // A piece joins the open unitig; answers the new vertex count. Refusals 10, 11, 7, 6, 9, 5, 8, 3, in this order.
-    #[tactic(auto, unfolding(crate::specs::Join::join_cell, crate::specs::Numbered::by_gate))]
+    #[tactic(auto, using(crate::proofs::Laws::Joining::same_held), unfolding(crate::specs::Join::same_join, crate::specs::Join::alike))]
     fn join(
         self,
         number: u32,
-        n: u32,
-        reversed: bool,
-        piece: &[u64],
+        piece: Piece,
         opened: &mut [u64],
         held: &mut [u64],
     ) -> Told<Cell, u64>
         requires { JoinFits self (length opened.old) (length held.old) }
-        ensures { (of_answer result.answer, result.state, opened.new, held.new) ≡ join_cell self number n reversed piece.now opened.old held.old }
+        ensures { (of_answer result.answer, result.state, opened.new, held.new) ≡ join_cell self number piece.entry.n piece.entry.reversed piece.entry.runs.now opened.old held.old }
     {
-        match self.join_gate(number, n, reversed, piece, opened, held) {
-            Err(r) => Told {
+        let open_runs = OpenRuns::of(self, opened);
+        let last = self.held.part(held);
+        let same = ||
+            ensures { result ≡ same_join (length last.entry.now) last.entry.now self.last piece.entry.n piece.entry.reversed piece.entry.runs.now }
+        {
+            let Piece { n, reversed, runs } = piece;
+            self.last == Last::Join { n, reversed } && last == runs
+        };
+        let test = ||
+            ensures { result ≡ join_test open_runs.entry.cell open_runs.entry.runs.now piece.entry.n piece.entry.reversed piece.entry.runs.now }
+        { open_runs.join_test(piece) };
+        let gate = self.gate(number, same, test);
+        match gate.transpose() {
+            Some(answer) => Told {
                 state: self,
-                answer: Err(r),
+                answer,
             },
-            Ok(Some(again)) => Told {
-                state: self,
-                answer: Ok(again),
-            },
-            Ok(None) => self.join_piece(number, n, reversed, piece, opened, held),
+            None => self.join_piece(number, piece, opened, held),
         }
     }
 }
@@ -254,7 +227,12 @@ impl Store {
                 answer: Err(Refusal::Altered),
             };
         }
-        let told = self.cell.join(number, n, reversed, piece, opened, held);
+        let piece = Piece {
+            n,
+            reversed,
+            runs: piece,
+        };
+        let told = self.cell.join(number, piece, opened, held);
         Told {
             state: Store {
                 cell: told.state,

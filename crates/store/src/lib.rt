@@ -7,6 +7,7 @@ mod start; // a fresh store
 mod altered; // 15, which every later call tests first
 mod numbered; // 10, 11 and repeats, which every numbered call tests next
 mod filed; // the record that a coordinate names
+mod opened; // the open runs
 mod add;
 mod close;
 mod join;

@@ -1,16 +1,15 @@
 // Show: the set of a vertex of a closed unitig.
-ghost use Rattle.std.specs.Prelude.{◌≡◌, false, ◌+◌, ◌*◌, ◌<◌, ◌≤◌, length};
+// `as` stands where no `From` leads, from u32 and u64 to usize and back, and from u64 to u32: what it converts is proved to fit.
+ghost use Rattle.std.specs.Prelude.{◌≡◌, ◌*◌, ◌<◌, ◌≤◌, length, take};
 ghost use Rattle.std.proofs.Math.Option.{some};
-ghost use Rattle.codec.specs.Records.{bad_colors};
 ghost use Rattle.store.specs.State.{bufs, of_answer};
 ghost use Rattle.store.specs.Filed.{set_from};
 ghost use Rattle.store.specs.Show.{coord_from, vertex_coord, no_place, shown_by, show_step, with_state};
-ghost use Rattle.store.specs.Inside.Fits.{ShowFits};
-ghost use Rattle.store.specs.Inside.Places.{option_of};
 ghost use Rattle.store.specs.Inside.Showing.{by_seek, damage_or, of_read, seek_of};
 
+use crate::filed::Filed;
 use crate::lengths::Lengths;
-use crate::state::{Cell, Shared, Store, Told};
+use crate::state::{Shared, Store, Told};
 use base::{Given, Refusal};
 
 // A record that can't be read is damaged, whatever is wrong with it; want of space stays what it is.
@@ -31,93 +30,96 @@ fn read_answer(got: Result<Given, Refusal>) -> Result<u64, Refusal>
     got.map(|given| given.items as u64).map_err(damage_or)
 }
 
-impl Shared {
+// The closed unitigs: the used parts of the run file and of the table.
+#[derive(Clone, Copy)]
+struct Closed<'a> {
+    shared: Shared,
+    runs: &'a [u8],
+    table: &'a [u64],
+    ghost whole: { length runs.now ≡ shared.runs.used },
+    ghost pairs: { length table.now ≡ 2 * shared.unitigs },
+}
+
+impl<'a> Closed<'a> {
+    ghost use Rattle.store.specs.Inside.Fits.{Fits};
+    ghost use Rattle.store.specs.Inside.Places.{option_of};
+
+    fn of(shared: Shared, runs: &'a [u8], table: &'a [u64]) -> Self
+        requires runs { Fits shared.runs.length shared.runs.used (length runs.now) }
+        requires table { Fits shared.table (2 * shared.unitigs) (length table.now) }
+        ensures { (result.shared ≡ shared) × (result.runs.now ≡ take shared.runs.used runs.now) × (result.table.now ≡ take (2 * shared.unitigs) table.now) }
+    {
+        Self {
+            shared,
+            runs: shared.runs.part(runs),
+            table: &table[..2 * shared.unitigs as usize],
+        }
+    }
+
     // The coordinate of a vertex of a unitig of n vertices whose run bytes begin at `at`, where they are whole and sharp.
     #[tactic(auto, using(base::proofs::Tests::tests), unfolding(crate::specs::Show::coord_from))]
-    fn color_from(self, at: usize, n: u64, vertex: u32, runs: &[u8]) -> Option<u64>
-        requires { self.runs.used ≤ length runs.now }
-        ensures { option_of result ≡ coord_from self runs.now at n vertex }
+    fn color_from(self, at: usize, n: u64, vertex: u32) -> Option<u64>
+        ensures { option_of result ≡ coord_from self.entry.shared self.entry.runs.now at n vertex }
     {
-        if 16777215 < n || self.runs.used < at {
+        if 16777215 < n || self.shared.runs.used < at {
             return None;
         }
-        let filed = self.runs.part(runs);
-        runs::bytes::sharp_color_at(&filed[at..], n as u32, vertex).ok()
+        runs::bytes::sharp_color_at(&self.runs[at..], n as u32, vertex).ok()
     }
 
     // Whether there is no such closed unitig, or no such vertex of it.
     #[tactic(auto, using(base::proofs::Tests::tests), unfolding(crate::specs::Show::no_place))]
-    fn no_place(self, unitig: u32, vertex: u32, table: &[u64]) -> bool
-        requires { 2 * self.unitigs ≤ length table.now }
-        ensures { result ≡ no_place self table.now unitig vertex }
+    fn no_place(self, unitig: u32, vertex: u32) -> bool
+        ensures { result ≡ no_place self.entry.shared self.entry.table.now unitig vertex }
     {
-        self.unitigs <= unitig || table[2 * unitig as usize + 1] <= vertex as u64
+        self.shared.unitigs <= unitig || self.table[2 * unitig as usize + 1] <= u64::from(vertex)
     }
 
     // The coordinate of a vertex of a unitig that there is.
-    fn vertex_color(self, unitig: u32, vertex: u32, runs: &[u8], table: &[u64]) -> Option<u64>
-        requires { (unitig < self.unitigs) × (self.runs.used ≤ length runs.now) × (2 * self.unitigs ≤ length table.now) }
-        ensures { option_of result ≡ vertex_coord self runs.now table.now unitig vertex }
+    fn vertex_color(self, unitig: u32, vertex: u32) -> Option<u64>
+        requires { unitig < self.shared.unitigs }
+        ensures { option_of result ≡ vertex_coord self.entry.shared self.entry.runs.now self.entry.table.now unitig vertex }
     {
         let entry = 2 * unitig as usize;
-        let at = table[entry] as usize;
-        let n = table[entry + 1];
-        self.color_from(at, n, vertex, runs)
+        let at = self.table[entry] as usize;
+        let n = self.table[entry + 1];
+        self.color_from(at, n, vertex)
     }
 }
 
-impl Cell {
+impl Filed<'_> {
     // The set of the record at `at` to the front of `out`; refusal 5, damaged, or 3, no space.
-    fn give(self, colors: u32, at: usize, records: &[u8], out: &mut [u32]) -> Result<u64, Refusal>
-        requires { (at ≤ self.records.used) × (self.records.used ≤ length records.now) × (bad_colors colors ≡ false) }
-        ensures { (of_answer result, out.new) ≡ shown_by (set_from colors self records.now (some at)) out.old }
+    fn give(self, at: usize, out: &mut [u32]) -> Result<u64, Refusal>
+        requires { at ≤ self.cell.records.used }
+        ensures { (of_answer result, out.new) ≡ shown_by (set_from self.entry.colors self.entry.cell self.entry.file.now (some at)) out.old }
     {
-        let filed = self.records.part(records);
-        read_answer(codec::records::read_color_record(colors, &filed[at..], out))
+        read_answer(codec::records::read_color_record(self.colors, &self.file[at..], out))
     }
-}
 
-impl Store {
     // Refusal 14, no such place; 5, damaged; otherwise where the record lies.
     #[tactic(auto, using(base::proofs::Tests::tests), unfolding(crate::specs::Inside::Showing::seek_of, crate::specs::Inside::Showing::seek_by, crate::specs::Inside::Showing::place_by))]
-    fn seek(
-        self,
-        unitig: u32,
-        vertex: u32,
-        index: &[u64],
-        runs: &[u8],
-        table: &[u64],
-    ) -> Result<usize, Refusal>
-        requires { (self.cell.sets < length index.now) × (self.shared.runs.used ≤ length runs.now) × (2 * self.shared.unitigs ≤ length table.now) }
-        ensures { result ≡ seek_of self index.now runs.now table.now unitig vertex }
+    fn seek(self, closed: Closed, unitig: u32, vertex: u32) -> Result<usize, Refusal>
+        ensures { result ≡ seek_of self.entry.cell closed.entry.shared self.entry.index.now closed.entry.runs.now closed.entry.table.now unitig vertex }
     {
-        if self.shared.no_place(unitig, vertex, table) {
+        if closed.no_place(unitig, vertex) {
             return Err(Refusal::Place);
         }
-        let color = self.shared.vertex_color(unitig, vertex, runs, table);
+        let color = closed.vertex_color(unitig, vertex);
         let coord = color.ok_or(Refusal::Damaged)?;
-        self.cell.record_start(coord, index).ok_or(Refusal::Damaged)
+        self.record_start(coord).ok_or(Refusal::Damaged)
     }
 
     // The tests of a show but 15, and the set of the record that they find.
     #[tactic(auto, unfolding(crate::specs::Inside::Showing::by_seek))]
-    fn shown(
-        self,
-        unitig: u32,
-        vertex: u32,
-        out: &mut [u32],
-        records: &[u8],
-        index: &[u64],
-        runs: &[u8],
-        table: &[u64],
-    ) -> Result<u64, Refusal>
-        requires { ShowFits self (length records.now) (length index.now) (length runs.now) (length table.now) }
-        ensures { (of_answer result, out.new) ≡ by_seek self records.now (seek_of self index.now runs.now table.now unitig vertex) out.old }
+    fn show(self, closed: Closed, unitig: u32, vertex: u32, out: &mut [u32]) -> Result<u64, Refusal>
+        ensures { (of_answer result, out.new) ≡ by_seek self.entry.colors self.entry.cell self.entry.file.now (seek_of self.entry.cell closed.entry.shared self.entry.index.now closed.entry.runs.now closed.entry.table.now unitig vertex) out.old }
     {
-        let at = self.seek(unitig, vertex, index, runs, table)?;
-        self.cell.give(self.colors, at, records, out)
+        let at = self.seek(closed, unitig, vertex)?;
+        self.give(at, out)
     }
+}
 
+impl Store {
     // The ids of a vertex's set to the front of `out`; answers how many. Refusals 15, 14, 5, 3, in this order.
     pub fn show(
         self,
@@ -139,9 +141,11 @@ impl Store {
                 answer: Err(Refusal::Altered),
             };
         }
+        let filed = Filed::of(self.cell, self.colors, records, index);
+        let closed = Closed::of(self.shared, runs, table);
         Told {
             state: self,
-            answer: self.shown(unitig, vertex, out, records, index, runs, table),
+            answer: filed.show(closed, unitig, vertex, out),
         }
     }
 }

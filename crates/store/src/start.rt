@@ -21,7 +21,7 @@ fn bad_limits(colors: u32, worker: u32) -> bool
 impl CellLengths {
     // No index entry, or a buffer of a cell that is too long.
     #[tactic(auto, unfolding(crate::specs::Start::bad_cell_lengths, base::specs::Tests::any_of))]
-    fn bad(self) -> bool
+    fn is_bad(self) -> bool
         ensures { result ≡ bad_cell_lengths (cell_lent self) }
     {
         self.index == 0
@@ -34,7 +34,7 @@ impl CellLengths {
 
 impl SharedLengths {
     #[tactic(auto, unfolding(crate::specs::Start::bad_shared_lengths, base::specs::Tests::any_of))]
-    fn bad(self) -> bool
+    fn is_bad(self) -> bool
         ensures { result ≡ bad_shared_lengths (shared_lent self) }
     {
         too_long(self.runs) || too_long(self.table)
@@ -43,10 +43,10 @@ impl SharedLengths {
 
 impl Lengths {
     #[tactic(auto, unfolding(crate::specs::Start::bad_lengths))]
-    fn bad(self) -> bool
+    fn is_bad(self) -> bool
         ensures { result ≡ bad_lengths (all_lent self) }
     {
-        self.cell.bad() || self.shared.bad()
+        self.cell.is_bad() || self.shared.is_bad()
     }
 }
 
@@ -103,7 +103,7 @@ impl Store {
         if bad_limits(colors, worker) {
             return unstarted(Refusal::Colors);
         }
-        if lengths.bad() {
+        if lengths.is_bad() {
             return unstarted(Refusal::Space);
         }
         index[0] = 0;

@@ -9,25 +9,28 @@ use lib.ListN.{length, set, take, drop, length-drop}
 use lib.Dec.{ltb}
 use borrow.Author.Tests.{le-ltb, ltb-false, not-false}
 use borrow.Rule.Slice.PartMut.{mid_of, put_mid}
-use Rattle.std.proofs.Common.{Result, Ok, None, IsOk}
+use Rattle.std.proofs.Common.{Result, Ok, Some, None, IsOk}
+use Rattle.std.proofs.Common as std
+use Rattle.std.specs.Result.{result_transpose}
 use Rattle.base.specs.Answers.{Answer, done, of_written}
 use Rattle.base.specs.Parts.{over}
 use Rattle.base.specs.declared.Refusal.{Refusal}
 use Rattle.base.specs.Tests.{◌when◌else◌}
 use Rattle.base.proofs.Bools.{or_none}
 use Rattle.base.proofs.Parts.{put_tail, tail_is}
-use Rattle.codec.specs.Records.{ReadRecord, bad_colors, gives_ids, is_record, record_length, record_of, write_record}
+use Rattle.codec.specs.Records.{ReadRecord, bad_colors, gives_ids, is_record, read_record, record_length, record_of, write_record}
 use Rattle.codec.specs.Records as records
 use Rattle.runs.specs.Words.{coordinate_of}
-use Rattle.store.specs.Add.{add_filed, add_test, no_space}
-use Rattle.store.specs.Filed.{reads_as, record_start, set_from, set_in, unnamed}
+use Rattle.store.specs.Add.{add_cell, add_filed, add_test, no_space, same_add}
+use Rattle.store.specs.Filed.{reads_as, record_start, set_at, set_from, set_in, unnamed}
 use Rattle.store.specs.Inside.Fits.{AddFits, AddReady}
-use Rattle.store.specs.Numbered.{numbered}
-use Rattle.store.specs.State.{after, put}
+use Rattle.store.specs.Numbered.{Gate, numbered}
+use Rattle.store.specs.State.{after, of_answer, put}
 use Rattle.store.specs.declared.state.Cell.{Cell}
+use Rattle.store.specs.declared.state.Last.{Last}
 use Rattle.store.specs.declared.state.Last.TheVariants as last
-use Rattle.store.proofs.Laws.Parts.{rest_is}
-use Rattle.store.proofs.Laws.Tested.{told_written, is_ok_at, refuse_go, said_go}
+use Rattle.store.proofs.Laws.Parts.{part_whole, rest_is}
+use Rattle.store.proofs.Laws.Tested.{told_written, is_ok_at, gate_goes, gate_told, gate_went, refuse_go, said_go}
 
 -- ---- the record that a coordinate names
 
@@ -52,11 +55,11 @@ gives_reads (records.found js rest) ids = refl
 gives_reads records.short ids = refl
 gives_reads records.damaged ids = refl
 
-pub part_reads : (r : Bool) (N : ℕ) (c : Cell) (file part ids : List ℕ) (at : ℕ) → part ≡ take c.records.used file → bad_colors N ≡ false
-    → r ≡ is_record N ids (take (length part - at) (drop at part)) → r ≡ reads_as (set_from N c file (some at)) ids
+pub part_reads : (r : Bool) (N : ℕ) (c : Cell) (file ids : List ℕ) (at : ℕ) → length file ≡ c.records.used → bad_colors N ≡ false
+    → r ≡ is_record N ids (take (length file - at) (drop at file)) → r ≡ reads_as (set_from N c file (some at)) ids
 unfolding is_record set_from ◌when◌else◌
-part_reads r N c file part ids at h b e =
-    e ∙ rw (b, rest_is at c.records.used file part h) (gives_reads _ ids)
+part_reads r N c file ids at h b e =
+    e ∙ rw (b, rest_is c.records.used file h at) (gives_reads _ ids)
 
 -- ---- what is known where add may go
 
@@ -78,8 +81,36 @@ ready N c ids f n a e =
       entry = omega arith;
     }
 
-pub add_ready : (N : ℕ) (c : Cell) (i : ℕ) (same : Bool) (ids : List ℕ) (f n : ℕ) → AddFits N c f n → Ok None ≡ numbered c i same (add_test N c ids) → AddReady N c ids f n
-add_ready N c i same ids f n a e = ready N c ids f n a (said_go c i same _ e)
+-- the sets are read in the used part of the file
+pub set_part : (N : ℕ) (c : Cell) (file : List ℕ) → c.records.used ≤ length file → (o : Option ℕ) → set_from N c (take c.records.used file) o ≡ set_from N c file o
+unfolding set_from
+set_part N c file h none = refl
+set_part N c file h (some at) = ap (λ (l : List ℕ). set_in (read_record N (drop at l))) (part_whole c.records.used file h)
+
+same_part : (N : ℕ) (c : Cell) (file index : List ℕ) (l : Last) (ids : List ℕ) → c.records.used ≤ length file → same_add N c (take c.records.used file) index l ids ≡ same_add N c file index l ids
+unfolding same_add set_at
+same_part N c file index last.Fresh ids h = refl
+same_part N c file index last.Add ids h = ap (λ (o : Option (List ℕ)). reads_as o ids) (set_part N c file h (record_start c index c.answer))
+same_part N c file index (last.Join n r) ids h = refl
+same_part N c file index (last.Close v) ids h = refl
+
+-- ---- what the gate of an add told
+
+module _ (N : ℕ) (c : Cell) (i : ℕ) (ids file index : List ℕ) (fits : AddFits N c (length file) (length index)) (g : Gate) (r : std.Option (Result ℕ Refusal))
+    (h : g ≡ numbered c i (same_add N c (take c.records.used file) index c.last ids) (add_test N c ids)) (e : r ≡ result_transpose g) where
+  gate_is : g ≡ numbered c i (same_add N c file index c.last ids) (add_test N c ids)
+  gate_is = h ∙ ap (λ (t : Bool). numbered c i t (add_test N c ids)) (same_part N c file index c.last ids (omega (arith, fits.records.inside)))
+
+  pub add_told : (a : Result ℕ Refusal) → r ≡ Some a → ◌≡◌ {A = Answer × Cell × List ℕ × List ℕ} (of_answer a, c, file, index) (add_cell N c i ids file index)
+  unfolding add_cell
+  add_told a q = rw (← gate_is) (gate_told g (λ (x : Answer). (x, c, file, index)) (add_filed N c i ids file index) r e a q)
+
+  pub add_goes : r ≡ None → AddReady N c ids (length file) (length index)
+  add_goes q = ready N c ids _ _ fits (said_go c i _ _ (sym gate_is ∙ gate_goes g (λ (x : Answer). x) (done []) r e q))
+
+  pub add_done : r ≡ None → (x : Answer × Cell × List ℕ × List ℕ) → x ≡ add_filed N c i ids file index → x ≡ add_cell N c i ids file index
+  unfolding add_cell
+  add_done q x k = rw (← gate_is) (gate_went g (λ (x : Answer). (x, c, file, index)) (add_filed N c i ids file index) r e q x k)
 
 -- ---- the record is written
 

@@ -5,11 +5,11 @@ use mathlib.Core.Bool.{Bool, true, false, not, ◌||◌}
 use mathlib.Core.List.{List, [], ◌∷◌, ◌++◌}
 use native.Mathlib.Omega.{arith}
 use lib.ListN.{length, set, take, drop, length-drop, length-set, take-append-drop}
-use lib.Seq.{length-take-le}
 use lib.Dec.{ltb, eqb}
 use borrow.Author.Tests.{lt-ltb, le-ltb, ltb-false, ltb-true, not-false}
 use borrow.Rule.Slice.PartMut.{mid_of, put_mid}
-use Rattle.std.proofs.Common.{Result, Ok, Err, None}
+use Rattle.std.proofs.Common.{Option, Result, Ok, Err, Some, None}
+use Rattle.std.specs.Result.{result_transpose}
 use Rattle.base.specs.Answers.{Answer, done, number_of, of_written}
 use Rattle.base.specs.Answers as answer
 use Rattle.base.specs.Parts.{over}
@@ -20,8 +20,9 @@ use Rattle.base.proofs.Bools.{or_none}
 use Rattle.base.proofs.Parts.{put_tail, tail_is}
 use Rattle.base.proofs.Tests.{when_no, when_yes}
 use Rattle.runs.specs.Bytes.{run_bytes, write_rotated, write_runs}
-use Rattle.runs.specs.Orders.{sharp, steady}
+use Rattle.runs.specs.Orders.{sharp}
 use Rattle.runs.specs.Rotate.{rotate_runs}
+use Rattle.runs.specs.Inside.Lists.{Taken}
 use Rattle.runs.proofs.Laws.Answers.{rotated_written}
 use Rattle.runs.proofs.Laws.Cursor.{rotate_few}
 use Rattle.runs.proofs.Laws.Orders.{steady_sharp, taken}
@@ -29,8 +30,8 @@ use Rattle.store.specs.Altered.{bad_current, bad_vertices}
 use Rattle.store.specs.Close.{close_cell, close_filed, close_filed_of, close_open, close_test, count_of, filed_bytes, filed_runs, no_close_space, same_close}
 use Rattle.store.specs.Inside.Closing.{bytes_into, filed_or_full, table_test}
 use Rattle.store.specs.Inside.Fits.{CloseFits, CloseReady}
-use Rattle.store.specs.Numbered.{Test, by_gate, by_sequence, numbered, repeated, sequence_of, tested}
-use Rattle.store.specs.State.{after, put, with_unitig}
+use Rattle.store.specs.Numbered.{Gate, Test, by_gate, by_sequence, numbered, repeated, sequence_of, tested}
+use Rattle.store.specs.State.{after, of_answer, put, with_unitig}
 use Rattle.store.specs.declared.numbered.Sequence.{Sequence}
 use Rattle.store.specs.declared.numbered.Sequence.TheVariants.{New, Repeat}
 use Rattle.store.specs.declared.state.Cell.{Cell}
@@ -40,7 +41,7 @@ use Rattle.store.specs.declared.state.Last.TheVariants as last
 use Rattle.store.specs.declared.state.Shared.{Shared}
 use Rattle.store.specs.declared.state.Way.{Way}
 use Rattle.store.specs.declared.state.Way.TheVariants.{Cycle, Line}
-use Rattle.store.proofs.Laws.Tested.{refuse_go, said_go}
+use Rattle.store.proofs.Laws.Tested.{gate_goes, gate_told, gate_went, refuse_go, said_go}
 
 -- ---- what is known where close may go
 
@@ -49,23 +50,25 @@ unfolding close_open count_of
 open_let Nothing old rest e = let z : ◌≡◌ {A = ℕ} 0 1 = cc in absurd (omega arith)
 open_let (Open n) old rest e = let a = refuse_go _ _ _ e in (not-false _ a.0, refl, a.1)
 
+pub count_open : (k : Current) (n : ℕ) → k ≡ Open n → n ≡ count_of k
+unfolding count_of
+count_open k n e = rw e refl
+
 few_vertices : (k : Current) → bad_current k ≡ false → count_of k ≤ 16777215
 unfolding bad_current bad_vertices count_of
 few_vertices Nothing e = omega arith
 few_vertices (Open n) e = ltb-false _ _ (or_none (eqb n 0) _ e).1
 
-pub close_ready : (c : Cell) (s : Shared) (i : ℕ) (again : Bool) (opened runs table : List ℕ) → CloseFits c s (length opened) (length runs) (length table) → Ok None ≡ numbered c i again (table_test c s opened) → CloseReady c s opened (length runs) (length table)
+close_ready : (c : Cell) (s : Shared) (n : ℕ) (old runs table : List ℕ) → CloseFits c s n (length runs) (length table) → table_test c s old ≡ Ok tt → CloseReady c s old (length runs) (length table)
 unfolding table_test
-close_ready c s i again opened runs table o e =
-    let a = open_let c.current (take c.opened.used opened) _ (said_go c i again (table_test c s opened) e) in
+close_ready c s n old runs table o e =
+    let a = open_let c.current old _ e in
     let d = refuse_go _ _ _ a.2 in
     let y : 2 * s.unitigs + 2 ≤ s.table = ltb-false _ _ d.0 in
     record {
       is_sharp = a.0;
       few = few_vertices c.current o.current;
       is_open = a.1;
-      used = o.opened.inside;
-      small_opened = o.opened.small;
       used_runs = o.runs.inside;
       pair = omega (arith, y, o.table.same);
       small_runs = o.runs.small;
@@ -104,24 +107,23 @@ module _ (file : List ℕ) (at : ℕ) (inside : at ≤ length file) where
       (into_by (ltb (length file) (at + length (run_bytes ws))) a (run_bytes ws) file part at
       (e ∙ rw (tail_is at file, space_same at (length (run_bytes ws)) file inside) (when_no _ _ _ (le-ltb _ _ few))))
 
-  pub line_filed : (way : Way) (a : Answer) (part old ws : List ℕ) (n used : ℕ) → way ≡ Line → ws ≡ take used old → used ≤ length old → used ≤ 4294967295
+  pub line_filed : (way : Way) (a : Answer) (part ws : List ℕ) (n used : ℕ) → way ≡ Line → length ws ≡ used → used ≤ 4294967295
       → ◌≡◌ {A = Answer × List ℕ} (a, part) (write_runs ws (mid_of at (length file - at) file))
-      → ◌≡◌ {A = Answer × List ℕ} (a, put_mid at (length file - at) file part) (bytes_into (run_bytes (filed_runs way n (take used old))) at file)
+      → ◌≡◌ {A = Answer × List ℕ} (a, put_mid at (length file - at) file part) (bytes_into (run_bytes (filed_runs way n ws)) at file)
   unfolding filed_runs
-  line_filed way a part old ws n used q d h few e =
-      let l : length (take used old) ≡ used = length-take-le used old h in
-      let k : length (take used old) ≤ 4294967295 = omega arith in
-      rw q (runs_into a part (take used old) k (rw d at e))
+  line_filed way a part ws n used q l few e =
+      let k : length ws ≤ 4294967295 = omega arith in
+      rw q (runs_into a part ws k e)
 
-  pub cycle_filed : (way : Way) (pivot : ℕ) (a : Answer) (part old ws : List ℕ) (n used : ℕ) → way ≡ Cycle pivot → ws ≡ take used old → n ≤ 16777215 → sharp n (take used old) ≡ true
+  pub cycle_filed : (way : Way) (pivot : ℕ) (a : Answer) (part ws : List ℕ) (n : ℕ) → way ≡ Cycle pivot → n ≤ 16777215 → sharp n ws ≡ true
       → ◌≡◌ {A = Answer × List ℕ} (a, part) (write_rotated ws n pivot false (mid_of at (length file - at) file))
-      → ◌≡◌ {A = Answer × List ℕ} (a, put_mid at (length file - at) file part) (bytes_into (run_bytes (filed_runs way n (take used old))) at file)
+      → ◌≡◌ {A = Answer × List ℕ} (a, put_mid at (length file - at) file part) (bytes_into (run_bytes (filed_runs way n ws)) at file)
   unfolding filed_runs
-  cycle_filed way pivot a part old ws n used q d small sh e =
-      let st : steady n (take used old) ≡ true = steady_sharp n (take used old) sh in
-      let f : length (rotate_runs n pivot false (take used old)) ≤ n = rotate_few n pivot false (take used old) (taken n (take used old) small st) in
-      let k : length (rotate_runs n pivot false (take used old)) ≤ 4294967295 = omega arith in
-      rw q (runs_into a part (rotate_runs n pivot false (take used old)) k ((rw d at e) ∙ sym (rotated_written (take used old) n pivot false (mid_of at (length file - at) file) (taken n (take used old) small st))))
+  cycle_filed way pivot a part ws n q small sh e =
+      let t : Taken n ws = taken n ws small (steady_sharp n ws sh) in
+      let f : length (rotate_runs n pivot false ws) ≤ n = rotate_few n pivot false ws t in
+      let k : length (rotate_runs n pivot false ws) ≤ 4294967295 = omega arith in
+      rw q (runs_into a part (rotate_runs n pivot false ws) k (e ∙ sym (rotated_written ws n pivot false (mid_of at (length file - at) file) t)))
 
 -- ---- with the table and the state
 
@@ -129,13 +131,13 @@ bytes_open : (way : Way) (k : Current) (n : ℕ) (old : List ℕ) → k ≡ Open
 unfolding filed_bytes
 bytes_open way k n old e = rw e
 
-module _ (c : Cell) (s : Shared) (way : Way) (opened file file' : List ℕ) (w : Result ℕ Refusal) (n end : ℕ) (a : CloseReady c s opened (length file) end) (m : n ≡ count_of c.current)
-    (e : ◌≡◌ {A = Answer × List ℕ} (of_written w, file') (bytes_into (run_bytes (filed_runs way n (take c.opened.used opened))) s.runs.used file)) where
+module _ (c : Cell) (s : Shared) (way : Way) (old file file' : List ℕ) (w : Result ℕ Refusal) (n end : ℕ) (a : CloseReady c s old (length file) end) (m : n ≡ count_of c.current)
+    (e : ◌≡◌ {A = Answer × List ℕ} (of_written w, file') (bytes_into (run_bytes (filed_runs way n old)) s.runs.used file)) where
   abbrev bytes : List ℕ
-  bytes = filed_bytes way c.current (take c.opened.used opened)
+  bytes = filed_bytes way c.current old
 
   said : ◌≡◌ {A = Answer × List ℕ} (of_written w, file') (bytes_into bytes s.runs.used file)
-  said = e ∙ ap (λ (l : List ℕ). bytes_into l s.runs.used file) (sym (bytes_open way c.current n (take c.opened.used opened) (a.is_open ∙ ap Open (sym m))))
+  said = e ∙ ap (λ (l : List ℕ). bytes_into l s.runs.used file) (sym (bytes_open way c.current n old (a.is_open ∙ ap Open (sym m))))
 
   refused_by : (t : Bool) (k : ℕ) → ◌≡◌ {A = Answer × List ℕ} (answer.refused k, file') (◌when◌else◌ (answer.refused 3, file) t (done (length bytes ∷ []), put s.runs.used bytes file))
       → (t ≡ true) × (file' ≡ file)
@@ -155,7 +157,7 @@ module _ (c : Cell) (s : Shared) (way : Way) (opened file file' : List ℕ) (w :
       let y : done (len ∷ []) ≡ done (length bytes ∷ []) = ap (λ (x : Answer × List ℕ). x.0) q in
       (refl, cc, ap (λ (x : Answer × List ℕ). x.1) q)
 
-  pub filed_full : (i : ℕ) (table : List ℕ) (r : Refusal) → w ≡ Err r → ◌≡◌ {A = Answer × Cell × Shared × List ℕ × List ℕ} (answer.refused 3, c, s, file', table) (filed_or_full c s i way opened file table)
+  pub filed_full : (i : ℕ) (table : List ℕ) (r : Refusal) → w ≡ Err r → ◌≡◌ {A = Answer × Cell × Shared × List ℕ × List ℕ} (answer.refused 3, c, s, file', table) (filed_or_full c s i way old file table)
   unfolding filed_or_full bytes_into
   filed_full i table r h =
       let d = refused_by (ltb (length file) (s.runs.used + length bytes)) (number_of r) (ap (λ (x : Result ℕ Refusal). (of_written x, file')) (sym h) ∙ said) in
@@ -173,7 +175,7 @@ module _ (c : Cell) (s : Shared) (way : Way) (opened file file' : List ℕ) (w :
   filed_small len h = omega (arith, (filed_length len h).0, a.small_runs)
 
   pub filed_done : (i : ℕ) (table : List ℕ) (len : ℕ) → w ≡ Ok len
-      → ◌≡◌ {A = Answer × Cell × Shared × List ℕ × List ℕ} (done (s.unitigs ∷ []), after c c.records.used c.sets 0 c.held.used Nothing i (last.Close way) s.unitigs, with_unitig s (s.runs.used + len) (s.unitigs + 1), file', set (set table (2 * s.unitigs) s.runs.used) (2 * s.unitigs + 1) n) (filed_or_full c s i way opened file table)
+      → ◌≡◌ {A = Answer × Cell × Shared × List ℕ × List ℕ} (done (s.unitigs ∷ []), after c c.records.used c.sets 0 c.held.used Nothing i (last.Close way) s.unitigs, with_unitig s (s.runs.used + len) (s.unitigs + 1), file', set (set table (2 * s.unitigs) s.runs.used) (2 * s.unitigs + 1) n) (filed_or_full c s i way old file table)
   unfolding filed_or_full close_filed_of
   filed_done i table len h =
       let l = filed_length len h in
@@ -207,12 +209,34 @@ module _ {R : Type 0} (told : Answer → R) (go : R) where
   sequence_split (Ok Repeat) false a x y late e = refl
   sequence_split (Ok New) same a x y late e = e
 
-pub closed_is : (c : Cell) (s : Shared) (i : ℕ) (way : Way) (o k t : List ℕ) → s.runs.length ≡ length k
-    → close_cell c s i way o k t ≡ by_gate (numbered c i (same_close c.last way) (table_test c s o)) (λ (a : Answer). (a, c, s, k, t)) (filed_or_full c s i way o k t)
+closed_is : (c : Cell) (s : Shared) (i : ℕ) (way : Way) (o k t : List ℕ) → s.runs.length ≡ length k
+    → close_cell c s i way o k t ≡ by_gate (numbered c i (same_close c.last way) (table_test c s (take c.opened.used o))) (λ (a : Answer). (a, c, s, k, t)) (filed_or_full c s i way (take c.opened.used o) k t)
 unfolding close_cell close_test no_close_space table_test filed_or_full numbered
 closed_is c s i way o k t e =
     let old : List ℕ = take c.opened.used o in
     let end : ℕ = s.runs.used + length (filed_bytes way c.current (take c.opened.used o)) in
     sequence_split (λ (a : Answer). (a, c, s, k, t)) (close_filed c s i way o k t) (sequence_of c.number i) (same_close c.last way) c.answer _ _ _
     (open_split (λ (a : Answer). (a, c, s, k, t)) (close_filed c s i way o k t) c.current old (ltb s.runs.length end) (ltb s.table (2 * s.unitigs + 2)))
-    ∙ ap (λ (m : ℕ). by_gate (numbered c i (same_close c.last way) (table_test c s o)) (λ (a : Answer). (a, c, s, k, t)) (◌when◌else◌ (answer.refused 3, c, s, k, t) (ltb m end) (close_filed c s i way o k t))) e
+    ∙ ap (λ (m : ℕ). by_gate (numbered c i (same_close c.last way) (table_test c s (take c.opened.used o))) (λ (a : Answer). (a, c, s, k, t)) (◌when◌else◌ (answer.refused 3, c, s, k, t) (ltb m end) (close_filed c s i way o k t))) e
+
+-- ---- what the gate of a close told
+
+module _ (c : Cell) (s : Shared) (i : ℕ) (way : Way) (o k t : List ℕ) (fits : CloseFits c s (length o) (length k) (length t)) (g : Gate) (r : Option (Result ℕ Refusal))
+    (h : g ≡ numbered c i (same_close c.last way) (table_test c s (take c.opened.used o))) (e : r ≡ result_transpose g) where
+  abbrev told : Answer → Answer × Cell × Shared × List ℕ × List ℕ
+  told a = (a, c, s, k, t)
+
+  abbrev filed : Answer × Cell × Shared × List ℕ × List ℕ
+  filed = filed_or_full c s i way (take c.opened.used o) k t
+
+  close_is : by_gate g told filed ≡ close_cell c s i way o k t
+  close_is = ap (λ (x : Gate). by_gate x told filed) h ∙ sym (closed_is c s i way o k t fits.runs.same)
+
+  pub close_told : (a : Result ℕ Refusal) → r ≡ Some a → ◌≡◌ {A = Answer × Cell × Shared × List ℕ × List ℕ} (of_answer a, c, s, k, t) (close_cell c s i way o k t)
+  close_told a q = gate_told g told filed r e a q ∙ close_is
+
+  pub close_goes : r ≡ None → CloseReady c s (take c.opened.used o) (length k) (length t)
+  close_goes q = close_ready c s _ (take c.opened.used o) k t fits (said_go c i _ _ (sym h ∙ gate_goes g told filed r e q))
+
+  pub close_done : r ≡ None → (x : Answer × Cell × Shared × List ℕ × List ℕ) → x ≡ filed_or_full c s i way (take c.opened.used o) k t → x ≡ close_cell c s i way o k t
+  close_done q x p = gate_went g told filed r e q x p ∙ close_is

@@ -9,7 +9,8 @@ use lib.ListN.{length, take, drop, length-append, length-drop}
 use lib.Seq.{length-take-le}
 use lib.Dec.{ltb, leb, eqb}
 use borrow.Author.Tests.{lt-ltb, le-ltb, ne_eqb, ltb-false, eqb-false, leb-false, leb-true, not-false}
-use Rattle.std.proofs.Common.{Result, Ok, Err, None, IsOk}
+use Rattle.std.proofs.Common.{Option, Result, Ok, Err, Some, None, IsOk}
+use Rattle.std.specs.Result.{result_transpose}
 use Rattle.std.specs.Cmp.Lexicographic.{pointwise}
 use Rattle.std.specs.List.{list_all}
 use Rattle.base.specs.Answers.{Answer, done, of_written}
@@ -33,24 +34,30 @@ use Rattle.runs.proofs.Laws.Reverse.{oriented_long}
 use Rattle.store.specs.Altered.{bad_current, bad_vertices}
 use Rattle.store.specs.Filed.{unnamed}
 use Rattle.store.specs.Inside.Fits.{JoinFits, JoinReady, OpenReady, open_after}
-use Rattle.store.specs.Join.{all_named, join_filed, join_filed_at, join_test, open_at, open_count, open_new, open_space, open_test}
-use Rattle.store.specs.Numbered.{Test, numbered}
-use Rattle.store.specs.State.{after, put}
+use Rattle.store.specs.Join.{alike, all_named, join_cell, join_filed, join_filed_at, join_test, open_at, open_count, open_new, open_space, open_test, same_join}
+use Rattle.store.specs.Numbered.{Gate, Test, numbered}
+use Rattle.store.specs.State.{after, of_answer, put}
 use Rattle.store.specs.declared.state.Cell.{Cell}
 use Rattle.store.specs.declared.state.Current.{Current}
 use Rattle.store.specs.declared.state.Current.TheVariants.{Nothing, Open}
+use Rattle.store.specs.declared.state.Last.{Last}
 use Rattle.store.specs.declared.state.Last.TheVariants as last
-use Rattle.store.proofs.Laws.Tested.{told_written, is_ok_at, refuse_go, said_go}
+use Rattle.store.proofs.Laws.Parts.{part_whole, take_whole}
+use Rattle.store.proofs.Laws.Tested.{told_written, is_ok_at, gate_goes, gate_told, gate_went, refuse_go, said_go}
 
 -- ---- a repeat
 
 -- the library's equality of two slices
-pub same_slices : (xs ys : List ℕ) → pointwise eqb xs ys ≡ same xs ys
+same_slices : (xs ys : List ℕ) → pointwise eqb xs ys ≡ same xs ys
 unfolding same
 same_slices [] [] = refl
 same_slices [] (y ∷ ys) = refl
 same_slices (x ∷ xs) [] = refl
 same_slices (x ∷ xs) (y ∷ ys) = ap (λ (t : Bool). eqb x y && t) (same_slices xs ys)
+
+-- the library's equality of two slices, of which the first is used whole
+pub same_held : (xs ys : List ℕ) → pointwise eqb xs ys ≡ same (take (length xs) xs) ys
+same_held xs ys = rw (take_whole (length xs) xs refl) (same_slices xs ys)
 
 -- ---- 9
 
@@ -89,10 +96,10 @@ open_let (Open m) old op rest e =
     let d = refuse_go _ _ _ a.1 in
     (when_no _ _ _ a.0 ∙ when_no _ _ _ d.0, d.1)
 
-pub join_ready : (c : Cell) (i n : ℕ) (back again : Bool) (piece opened : List ℕ) (held : ℕ) → JoinFits c (length opened) held → Ok None ≡ numbered c i again (join_test c opened n back piece) → JoinReady c n back piece opened held
+join_ready : (c : Cell) (n : ℕ) (back : Bool) (piece opened : List ℕ) (held : ℕ) → JoinFits c (length opened) held → join_test c opened n back piece ≡ Ok tt → JoinReady c n back piece opened held
 unfolding join_test open_space
-join_ready c i n back again piece opened held o e =
-    let a7 = refuse_go _ _ _ (said_go c i again (join_test c opened n back piece) e) in
+join_ready c n back piece opened held o e =
+    let a7 = refuse_go _ _ _ e in
     let a6 = refuse_go _ _ _ a7.1 in
     let a9 = refuse_go _ _ _ a6.1 in
     let a8 = open_let c.current (take c.opened.used opened) (oriented back n piece) _ a9.1 in
@@ -114,6 +121,35 @@ join_ready c i n back again piece opened held o e =
           };
       room = omega (arith, y, o.held.same);
     }
+
+-- ---- what the gate of a join told
+
+same_part : (used : ℕ) (held : List ℕ) (l : Last) (n : ℕ) (back : Bool) (piece : List ℕ) → used ≤ length held → same_join (length (take used held)) (take used held) l n back piece ≡ same_join used held l n back piece
+unfolding same_join
+same_part used held last.Fresh n back piece h = refl
+same_part used held last.Add n back piece h = refl
+same_part used held (last.Join m r) n back piece h = ap (λ (l : List ℕ). eqb m n && alike r back && same l piece) (take_whole (length (take used held)) (take used held) refl)
+same_part used held (last.Close v) n back piece h = refl
+
+test_part : (c : Cell) (opened : List ℕ) (n : ℕ) (back : Bool) (piece : List ℕ) → c.opened.used ≤ length opened → join_test c (take c.opened.used opened) n back piece ≡ join_test c opened n back piece
+unfolding join_test
+test_part c opened n back piece h = rw (part_whole c.opened.used opened h)
+
+module _ (c : Cell) (i n : ℕ) (back : Bool) (piece opened held : List ℕ) (fits : JoinFits c (length opened) (length held)) (g : Gate) (r : Option (Result ℕ Refusal))
+    (h : g ≡ numbered c i (same_join (length (take c.held.used held)) (take c.held.used held) c.last n back piece) (join_test c (take c.opened.used opened) n back piece)) (e : r ≡ result_transpose g) where
+  gate_is : g ≡ numbered c i (same_join c.held.used held c.last n back piece) (join_test c opened n back piece)
+  gate_is = h ∙ ap₂ (λ (t : Bool) (u : Test). numbered c i t u) (same_part c.held.used held c.last n back piece fits.held.inside) (test_part c opened n back piece fits.opened.inside)
+
+  pub join_told : (a : Result ℕ Refusal) → r ≡ Some a → ◌≡◌ {A = Answer × Cell × List ℕ × List ℕ} (of_answer a, c, opened, held) (join_cell c i n back piece opened held)
+  unfolding join_cell
+  join_told a q = rw (← gate_is) (gate_told g (λ (x : Answer). (x, c, opened, held)) (join_filed c i n back piece opened held) r e a q)
+
+  pub join_goes : r ≡ None → JoinReady c n back piece opened (length held)
+  join_goes q = join_ready c n back piece opened _ fits (said_go c i _ _ (sym gate_is ∙ gate_goes g (λ (x : Answer). x) (done []) r e q))
+
+  pub join_done : r ≡ None → (x : Answer × Cell × List ℕ × List ℕ) → x ≡ join_filed c i n back piece opened held → x ≡ join_cell c i n back piece opened held
+  unfolding join_cell
+  join_done q x k = rw (← gate_is) (gate_went g (λ (x : Answer). (x, c, opened, held)) (join_filed c i n back piece opened held) r e q x k)
 
 -- ---- the open runs are written
 

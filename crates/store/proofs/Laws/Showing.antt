@@ -1,11 +1,13 @@
 -- The cases of a show, as `search` looks for them.
-use Prim.Native.Nat.{ℕ, ◌-◌, ◌≤◌, ◌<◌}
+use Prim.Native.Nat.{ℕ, ◌+◌, ◌-◌, ◌*◌, ◌≤◌, ◌<◌}
 use mathlib.Core.Path.{◌≡◌, refl, sym, ap, ap₂, ◌∙◌}
-use mathlib.Core.Bool.{Bool, true, false}
+use mathlib.Core.Bool.{Bool, true, false, ◌||◌}
 use mathlib.Core.List.{List, [], ◌∷◌}
 use mathlib.Core.Option.{Option, none, some}
 use native.Mathlib.Omega.{arith}
-use lib.ListN.{length, take, drop}
+use lib.ListN.{length, get_or, take, drop}
+use lib.Seq.{get_or-take}
+use lib.Dec.{leb}
 use borrow.Author.Tests.{le-ltb, eq-eqb, ne_eqb, leb-false}
 use Rattle.std.proofs.Common.{Result, Ok, Err}
 use Rattle.std.specs.Result.{result_ok}
@@ -31,8 +33,9 @@ use Rattle.store.specs.State.{Bufs, lengths_of, of_answer}
 use Rattle.store.specs.declared.state.Cell.{Cell}
 use Rattle.store.specs.declared.state.Shared.{Shared}
 use Rattle.store.specs.declared.state.Store.{Store}
-use Rattle.store.proofs.Laws.Adding.{start_within}
-use Rattle.store.proofs.Laws.Parts.{rest_is}
+use Rattle.store.proofs.Laws.Adding.{set_part, start_within}
+use Rattle.store.proofs.Laws.Parts.{part_whole, rest_is}
+use Rattle.store.proofs.Laws.Tested.{unaltered}
 
 -- ---- the coordinate of a vertex
 
@@ -40,9 +43,9 @@ colored : (w : Result ℕ Refusal) → option_of (result_ok w) ≡ told_coord (o
 colored (Ok coord) = refl
 colored (Err r) = refl
 
-pub from_there : (s : Shared) (runs part : List ℕ) (at n v : ℕ) → part ≡ take s.runs.used runs → n ≤ 16777215 → at ≤ s.runs.used → (w : Result ℕ Refusal) → of_colored w ≡ sharp_colour n v (take (length part - at) (drop at part)) → option_of (result_ok w) ≡ coord_from s runs at n v
+pub from_there : (s : Shared) (runs : List ℕ) (at n v : ℕ) → length runs ≡ s.runs.used → n ≤ 16777215 → at ≤ s.runs.used → (w : Result ℕ Refusal) → of_colored w ≡ sharp_colour n v (take (length runs - at) (drop at runs)) → option_of (result_ok w) ≡ coord_from s runs at n v
 unfolding coord_from ◌when◌else◌
-from_there s runs part at n v p h k w e = colored w ∙ ap (λ (x : Answer). told_coord x) e ∙ rw (le-ltb _ _ h, le-ltb _ _ k, rest_is at s.runs.used runs part p)
+from_there s runs at n v p h k w e = colored w ∙ ap (λ (x : Answer). told_coord x) e ∙ rw (le-ltb _ _ h, le-ltb _ _ k, rest_is s.runs.used runs p at)
 
 -- ---- 14, 5
 
@@ -66,11 +69,11 @@ unfolding ◌when◌else◌
 record_by true k at e = let z : ◌≡◌ {A = ℕ} 0 1 = cc in absurd (omega arith)
 record_by false k at e = (refl, e)
 
-pub record_in : (at : ℕ) (s : Store) (index runs table : List ℕ) (u v : ℕ) → Ok at ≡ seek_of s index runs table u v → at ≤ s.cell.records.used
+pub record_in : (at : ℕ) (c : Cell) (s : Shared) (index runs table : List ℕ) (u v : ℕ) → Ok at ≡ seek_of c s index runs table u v → at ≤ c.records.used
 unfolding seek_of
-record_in at s index runs table u v e =
+record_in at c s index runs table u v e =
     let d = record_by _ _ at (sym e) in
-    start_in s.cell index _ at (seek_by_lem _ at d.1)
+    start_in c index _ at (seek_by_lem _ at d.1)
 
 -- ---- the record is read
 
@@ -113,44 +116,77 @@ shown_by_lem records.damaged g total out' out e =
     let n : ◌≡◌ {A = ℕ} 5 3 → ⊥ = λ z. omega arith in
     ap₂ pair (read_damage g 5 n (ap (λ (x : Answer × List ℕ). x.0) e)) (ap (λ (x : Answer × List ℕ). x.1) e)
 
-pub given_set : (g : Result Given Refusal) (a : Result ℕ Refusal) (N : ℕ) (c : Cell) (file part out' out : List ℕ) (at : ℕ) → part ≡ take c.records.used file → bad_colors N ≡ false → a ≡ of_read g
-    → ◌≡◌ {A = Answer × List ℕ} (of_given g, out') (read_into N (take (length part - at) (drop at part)) out) → ◌≡◌ {A = Answer × List ℕ} (of_answer a, out') (shown_by (set_from N c file (some at)) out)
+pub given_set : (g : Result Given Refusal) (a : Result ℕ Refusal) (N : ℕ) (c : Cell) (file out' out : List ℕ) (at : ℕ) → length file ≡ c.records.used → bad_colors N ≡ false → a ≡ of_read g
+    → ◌≡◌ {A = Answer × List ℕ} (of_given g, out') (read_into N (take (length file - at) (drop at file)) out) → ◌≡◌ {A = Answer × List ℕ} (of_answer a, out') (shown_by (set_from N c file (some at)) out)
 unfolding read_into set_from
-given_set g a N c file part out' out at h b k e =
+given_set g a N c file out' out at h b k e =
     ap (λ (x : Result ℕ Refusal). pair (of_answer x) out') k
-    ∙ shown_by_lem (read_record N (drop at (take c.records.used file))) g (length (take (length part - at) (drop at part))) out' out
-    (e ∙ when_no _ _ _ b ∙ ap (λ (l : List ℕ). read_by (read_record N l) (length (take (length part - at) (drop at part))) out) (rest_is at c.records.used file part h))
+    ∙ shown_by_lem (read_record N (drop at (take c.records.used file))) g (length (take (length file - at) (drop at file))) out' out
+    (e ∙ when_no _ _ _ b ∙ ap (λ (l : List ℕ). read_by (read_record N l) (length (take (length file - at) (drop at file))) out) (rest_is c.records.used file h at))
 
 -- ---- the whole call
 
-shown_seek : (s : Store) (file : List ℕ) (o : Option ℕ) (out : List ℕ) → by_seek s file (seek_by o) out ≡ shown_by (set_from s.colors s.cell file o) out
+shown_seek : (N : ℕ) (c : Cell) (file : List ℕ) (o : Option ℕ) (out : List ℕ) → by_seek N c file (seek_by o) out ≡ shown_by (set_from N c file o) out
 unfolding by_seek seek_by set_from shown_by
-shown_seek s file none out = refl
-shown_seek s file (some at) out = refl
+shown_seek N c file none out = refl
+shown_seek N c file (some at) out = refl
 
-seek_is : (t : Bool) (s : Store) (file : List ℕ) (o : Option ℕ) (out : List ℕ) → by_seek s file (◌when◌else◌ (Err Place) t (seek_by o)) out ≡ ◌when◌else◌ (pair (answer.refused 14) out) t (shown_by (set_from s.colors s.cell file o) out)
+seek_is : (t : Bool) (N : ℕ) (c : Cell) (file : List ℕ) (o : Option ℕ) (out : List ℕ) → by_seek N c file (◌when◌else◌ (Err Place) t (seek_by o)) out ≡ ◌when◌else◌ (pair (answer.refused 14) out) t (shown_by (set_from N c file o) out)
 unfolding ◌when◌else◌ by_seek
-seek_is true s file o out = refl
-seek_is false s file o out = shown_seek s file o out
+seek_is true N c file o out = refl
+seek_is false N c file o out = shown_seek N c file o out
 
 set_by_lem : (N : ℕ) (c : Cell) (file index : List ℕ) (o : Option ℕ) → set_from N c file (place_by c index o) ≡ set_by N c file index o
 unfolding set_by set_at set_from place_by
 set_by_lem N c file index none = refl
 set_by_lem N c file index (some coord) = refl
 
-show_is : (s : Store) (b : Bufs) (u v : ℕ) (out : List ℕ) → altered s (lengths_of b) ≡ false → show_step s b u v out ≡ by_seek s b.cell.records (seek_of s b.cell.index b.shared.runs b.shared.table u v) out
+show_is : (s : Store) (b : Bufs) (u v : ℕ) (out : List ℕ) → altered s (lengths_of b) ≡ false → show_step s b u v out ≡ by_seek s.colors s.cell b.cell.records (seek_of s.cell s.shared b.cell.index b.shared.runs b.shared.table u v) out
 unfolding show_step seek_of vertex_set
 show_is s b u v out e =
     let o : Option ℕ = vertex_coord s.shared b.shared.runs b.shared.table u v in
     when_no _ _ _ e
     ∙ ap (λ (x : Option (List ℕ)). ◌when◌else◌ (pair (answer.refused 14) out) (no_place s.shared b.shared.table u v) (shown_by x out)) (sym (set_by_lem s.colors s.cell b.cell.records b.cell.index o))
-    ∙ sym (seek_is (no_place s.shared b.shared.table u v) s b.cell.records (place_by s.cell b.cell.index o) out)
+    ∙ sym (seek_is (no_place s.shared b.shared.table u v) s.colors s.cell b.cell.records (place_by s.cell b.cell.index o) out)
+
+-- ---- what is shown is read in the used parts
+
+coord_part : (s : Shared) (runs : List ℕ) → s.runs.used ≤ length runs → (at n v : ℕ) → coord_from s (take s.runs.used runs) at n v ≡ coord_from s runs at n v
+unfolding coord_from
+coord_part s runs h at n v = rw (part_whole s.runs.used runs h)
+
+seek_part : (c : Cell) (s : Shared) (index runs table : List ℕ) (u v : ℕ) → s.runs.used ≤ length runs → seek_of c s index (take s.runs.used runs) (take (2 * s.unitigs) table) u v ≡ seek_of c s index runs table u v
+unfolding seek_of no_place ◌when◌else◌
+seek_part c s index runs table u v h = go (leb s.unitigs u) refl
+  where
+    go : (t : Bool) → leb s.unitigs u ≡ t
+        → ◌when◌else◌ (Err Place) (t || leb (get_or (take (2 * s.unitigs) table) (2 * u + 1) 0) v) (seek_by (place_by c index (vertex_coord s (take s.runs.used runs) (take (2 * s.unitigs) table) u v)))
+        ≡ ◌when◌else◌ (Err Place) (t || leb (get_or table (2 * u + 1) 0) v) (seek_by (place_by c index (vertex_coord s runs table u v)))
+    go true e = refl
+    go false e =
+        let l : u < s.unitigs = leb-false _ _ e in
+        let i : 2 * u < 2 * s.unitigs = omega arith in
+        let j : 2 * u + 1 < 2 * s.unitigs = omega arith in
+        rw (get_or-take (2 * s.unitigs) table (2 * u) 0 i, get_or-take (2 * s.unitigs) table (2 * u + 1) 0 j, coord_part s runs h (get_or table (2 * u) 0) (get_or table (2 * u + 1) 0) v)
+
+read_part : (N : ℕ) (c : Cell) (file : List ℕ) → c.records.used ≤ length file → (k : Result ℕ Refusal) (out : List ℕ) → by_seek N c (take c.records.used file) k out ≡ by_seek N c file k out
+unfolding by_seek
+read_part N c file h (Err r) out = refl
+read_part N c file h (Ok at) out = ap (λ (o : Option (List ℕ)). shown_by o out) (set_part N c file h (some at))
 
 module _ (q : Bool) (s : Store) (b : Bufs) (u v : ℕ) (out : List ℕ) (l : Lengths) (d : l ≡ lengths_of b) (e : q ≡ altered s l) where
   pub show_altered : q ≡ true → ◌≡◌ {A = Answer × Store × List ℕ} (answer.refused 15, s, out) (with_state s (show_step s b u v out))
   unfolding show_step
   show_altered h = ap (λ (x : Answer × List ℕ). with_state s x) (sym (when_yes _ _ _ (ap (λ (m : Lengths). altered s m) (sym d) ∙ via e h)))
 
-  pub shown_whole : q ≡ false → (a : Answer) (out' : List ℕ) → ◌≡◌ {A = Answer × List ℕ} (a, out') (by_seek s b.cell.records (seek_of s b.cell.index b.shared.runs b.shared.table u v) out)
+  pub shown_whole : q ≡ false → (a : Answer) (out' : List ℕ)
+      → ◌≡◌ {A = Answer × List ℕ} (a, out') (by_seek s.colors s.cell (take s.cell.records.used b.cell.records) (seek_of s.cell s.shared b.cell.index (take s.shared.runs.used b.shared.runs) (take (2 * s.shared.unitigs) b.shared.table) u v) out)
       → ◌≡◌ {A = Answer × Store × List ℕ} (a, s, out') (with_state s (show_step s b u v out))
-  shown_whole h a out' p = ap (λ (x : Answer × List ℕ). with_state s x) (p ∙ sym (show_is s b u v out (ap (λ (n : Lengths). altered s n) (sym d) ∙ via e h)))
+  shown_whole h a out' p =
+      let n : altered s (lengths_of b) ≡ false = ap (λ (n : Lengths). altered s n) (sym d) ∙ via e h in
+      let f = unaltered s (lengths_of b) n in
+      let k : Result ℕ Refusal = seek_of s.cell s.shared b.cell.index (take s.shared.runs.used b.shared.runs) (take (2 * s.shared.unitigs) b.shared.table) u v in
+      ap (λ (x : Answer × List ℕ). with_state s x)
+      (p ∙ read_part s.colors s.cell b.cell.records f.add.records.inside k out
+      ∙ ap (λ (r : Result ℕ Refusal). by_seek s.colors s.cell b.cell.records r out) (seek_part s.cell s.shared b.cell.index b.shared.runs b.shared.table u v f.close.runs.inside)
+      ∙ sym (show_is s b u v out n))

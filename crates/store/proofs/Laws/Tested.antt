@@ -1,12 +1,13 @@
 -- The cases of the tests that every call begins with, as `search` looks for them.
 use Prim.Native.Nat.{ℕ, ◌≤◌, ◌<◌}
-use mathlib.Core.Path.{◌≡◌, refl, sym, ap}
+use mathlib.Core.Path.{◌≡◌, refl, sym, ap, ◌∙◌}
 use mathlib.Core.Bool.{Bool, true, false}
 use mathlib.Core.List.{[], ◌∷◌}
 use native.Mathlib.Omega.{arith}
 use borrow.Author.Tests.{eqb-true, eqb-false, not-false, ltb-false}
-use Rattle.std.proofs.Common.{Result, Ok, Err, None, IsOk}
-use Rattle.base.specs.Answers.{of_made, done, of_written}
+use Rattle.std.proofs.Common.{Option, Result, Ok, Err, Some, None, IsOk}
+use Rattle.std.specs.Result.{result_transpose}
+use Rattle.base.specs.Answers.{Answer, of_made, done, of_written}
 use Rattle.base.specs.Tests.{◌when◌else◌}
 use Rattle.base.specs.declared.Refusal.{Refusal}
 use Rattle.base.specs.declared.Refusal.TheVariants.{Colors, Space}
@@ -14,10 +15,10 @@ use Rattle.base.proofs.Bools.{or_none, via}
 use Rattle.base.proofs.Tests.{none_of}
 use Rattle.store.specs.Altered.{altered, altered_buffer, altered_cell, altered_shared}
 use Rattle.store.specs.Inside.Fits.{Fits, Unaltered}
-use Rattle.store.specs.Numbered.{Gate, Test, by_sequence, numbered, repeated, tested}
+use Rattle.store.specs.Numbered.{Gate, Test, by_gate, by_sequence, numbered, repeated, tested}
 use Rattle.store.specs.Plain.{CellLengths, Lengths}
 use Rattle.store.specs.Start.{bad_cell_lengths, bad_lengths, bad_limits, start_step, too_long, unstarted}
-use Rattle.store.specs.State.{Bufs, Outcome, lengths_of}
+use Rattle.store.specs.State.{Bufs, Outcome, lengths_of, of_answer}
 use Rattle.store.specs.declared.numbered.Sequence.{Sequence}
 use Rattle.store.specs.declared.numbered.Sequence.TheVariants.{New, Repeat}
 use Rattle.store.specs.declared.state.Cell.{Cell}
@@ -51,7 +52,6 @@ unaltered s now e =
       add = record { colors = a.0; records = records; index = index };
       join = record { opened = opened; held = fits _ _ _ c.1.1.1.0; current = current };
       close = record { opened = opened; current = current; runs = runs; table = table };
-      show = record { colors = a.0; records = records.inside; index = omega (arith, index.inside); runs = runs.inside; table = table.inside };
     }
 
 pub said_unaltered : (r : Bool) (s : Store) (l now : Lengths) → l ≡ now → r ≡ altered s l → r ≡ false → Unaltered s now
@@ -81,9 +81,32 @@ sequence_go (Err r) again tests n e = let z : ◌≡◌ {A = ℕ} 0 1 = cc in ab
 sequence_go (Ok Repeat) again tests n e = absurd (n e)
 sequence_go (Ok New) again tests n e = tested_go tests e
 
-pub said_go : (c : Cell) (i : ℕ) (same : Bool) (tests : Test) → Ok None ≡ numbered c i same tests → tests ≡ Ok tt
+pub said_go : (c : Cell) (i : ℕ) (same : Bool) (tests : Test) → numbered c i same tests ≡ Ok None → tests ≡ Ok tt
 unfolding numbered
-said_go c i same tests e = sequence_go _ _ tests (repeated_not_go same c.answer) (sym e)
+said_go c i same tests e = sequence_go _ _ tests (repeated_not_go same c.answer) e
+
+-- what the gate of a call told, or that it let the call go
+module _ {R : Type 0} (g : Gate) (told : Answer → R) (go : R) (r : Option (Result ℕ Refusal)) (e : r ≡ result_transpose g) where
+  pub gate_told : (a : Result ℕ Refusal) → r ≡ Some a → told (of_answer a) ≡ by_gate g told go
+  unfolding by_gate
+  gate_told a q = by g (sym e ∙ q)
+    where
+      by : (g : Gate) → result_transpose g ≡ Some a → told (of_answer a) ≡ by_gate g told go
+      by (Err r) q = let z : a ≡ Err r = cc in ap (λ (x : Result ℕ Refusal). told (of_answer x)) z
+      by (Ok (Some k)) q = let z : a ≡ Ok k = cc in ap (λ (x : Result ℕ Refusal). told (of_answer x)) z
+      by (Ok None) q = let z : ◌≡◌ {A = ℕ} 0 1 = cc in absurd (omega arith)
+
+  pub gate_goes : r ≡ None → g ≡ Ok None
+  gate_goes q = by g (sym e ∙ q)
+    where
+      by : (g : Gate) → result_transpose g ≡ None → g ≡ Ok None
+      by (Err r) q = let z : ◌≡◌ {A = ℕ} 0 1 = cc in absurd (omega arith)
+      by (Ok (Some k)) q = let z : ◌≡◌ {A = ℕ} 0 1 = cc in absurd (omega arith)
+      by (Ok None) q = refl
+
+  pub gate_went : r ≡ None → (x : R) → x ≡ go → x ≡ by_gate g told go
+  unfolding by_gate
+  gate_went q x h = rw (gate_goes q) h
 
 -- ---- what a write told
 

@@ -1,9 +1,9 @@
--- A close as the code goes: the table's space is tested first, and writing the run bytes tells whether they fit.
-use Rattle.std.specs.Prelude.{ℕ, ◌+◌, ◌*◌, List, [], ◌∷◌, length, take, ltb, Ok, Err}
+-- A close as the code goes, of the open runs alone: the table's space is tested first, and writing the run bytes tells whether they fit.
+use Rattle.std.specs.Prelude.{ℕ, ◌+◌, ◌*◌, List, [], ◌∷◌, length, ltb, Ok, Err}
 use Rattle.base.specs.Answers.{Answer, done, refused}
 use Rattle.base.specs.Tests.{◌when◌else◌}
 use Rattle.base.specs.declared.Refusal.TheVariants.{Space}
-use Rattle.store.specs.Close.{close_filed, close_open, filed_bytes}
+use Rattle.store.specs.Close.{close_filed_of, close_open, filed_bytes}
 use Rattle.store.specs.Numbered.{Test}
 use Rattle.store.specs.State.{put}
 use Rattle.store.specs.declared.state.Cell.{Cell}
@@ -11,9 +11,9 @@ use Rattle.store.specs.declared.state.Shared.{Shared}
 use Rattle.store.specs.declared.state.Way.{Way}
 
 -- 13, 5, and 3 of the table
-unfoldable pub table_test : Cell → Shared → (opened : List ℕ) → Test
-table_test c s opened =
-    close_open c.current (take c.opened.used opened)
+unfoldable pub table_test : Cell → Shared → (old : List ℕ) → Test
+table_test c s old =
+    close_open c.current old
     (Err Space when ltb s.table (2 * s.unitigs + 2) else Ok tt)
 
 -- bytes behind the used ones, or 3
@@ -23,7 +23,7 @@ bytes_into bytes at runs =
     (done (length bytes ∷ []), put at bytes runs)
 
 -- the unitig filed, or 3 of the run bytes
-unfoldable pub filed_or_full : Cell → Shared → ℕ → Way → (opened runs table : List ℕ) → Answer × Cell × Shared × List ℕ × List ℕ
-filed_or_full c s i way opened runs table =
-    (refused 3, c, s, runs, table) when ltb (length runs) (s.runs.used + length (filed_bytes way c.current (take c.opened.used opened))) else
-    close_filed c s i way opened runs table
+unfoldable pub filed_or_full : Cell → Shared → ℕ → Way → (old runs table : List ℕ) → Answer × Cell × Shared × List ℕ × List ℕ
+filed_or_full c s i way old runs table =
+    (refused 3, c, s, runs, table) when ltb (length runs) (s.runs.used + length (filed_bytes way c.current old)) else
+    close_filed_of c s i way runs table (filed_bytes way c.current old)

@@ -36,19 +36,11 @@ pub record CloseFits (c : Cell) (s : Shared) (o r t : ℕ) : Type 0 where
   pub runs : Fits s.runs.length s.runs.used r
   pub table : Fits s.table (2 * s.unitigs) t
 
-pub record ShowFits (s : Store) (f i r t : ℕ) : Type 0 where
-  pub colors : bad_colors s.colors ≡ false
-  pub records : s.cell.records.used ≤ f
-  pub index : s.cell.sets < i
-  pub runs : s.shared.runs.used ≤ r
-  pub table : 2 * s.shared.unitigs ≤ t
-
 -- 15 is not found
 pub record Unaltered (s : Store) (now : Lengths) : Type 0 where
   pub add : AddFits s.colors s.cell now.cell.records now.cell.index
   pub join : JoinFits s.cell now.cell.opened now.cell.held
   pub close : CloseFits s.cell s.shared now.cell.opened now.shared.runs now.shared.table
-  pub show : ShowFits s now.cell.records now.cell.index now.shared.runs now.shared.table
 
 -- where add may go
 pub record AddReady (N : ℕ) (c : Cell) (ids : List ℕ) (records index : ℕ) : Type 0 where
@@ -78,13 +70,11 @@ pub record JoinReady (c : Cell) (n : ℕ) (reversed : Bool) (piece opened : List
   pub ready : OpenReady c n reversed piece opened
   pub room : length piece ≤ held
 
--- where close may go, but for the space of its run bytes
-pub record CloseReady (c : Cell) (s : Shared) (opened : List ℕ) (runs table : ℕ) : Type 0 where
-  pub is_sharp : sharp (count_of c.current) (take c.opened.used opened) ≡ true
+-- where close may go, with these open runs, but for the space of its run bytes
+pub record CloseReady (c : Cell) (s : Shared) (old : List ℕ) (runs table : ℕ) : Type 0 where
+  pub is_sharp : sharp (count_of c.current) old ≡ true
   pub few : count_of c.current ≤ 16777215
   pub is_open : c.current ≡ Open (count_of c.current)
-  pub used : c.opened.used ≤ length opened
-  pub small_opened : length opened ≤ 4294967295
   pub used_runs : s.runs.used ≤ runs
   pub pair : 2 * s.unitigs + 2 ≤ table
   pub small_runs : runs ≤ 4294967295

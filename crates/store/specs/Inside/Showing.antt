@@ -9,7 +9,7 @@ use Rattle.base.specs.declared.Refusal.TheVariants.{Damaged, Place, Space}
 use Rattle.store.specs.Filed.{record_start, set_from}
 use Rattle.store.specs.Show.{no_place, shown_by, vertex_coord}
 use Rattle.store.specs.declared.state.Cell.{Cell}
-use Rattle.store.specs.declared.state.Store.{Store}
+use Rattle.store.specs.declared.state.Shared.{Shared}
 
 -- where the record begins that a coordinate names, or nowhere
 unfoldable pub place_by : Cell → (index : List ℕ) → Option ℕ → Option ℕ
@@ -20,14 +20,14 @@ unfoldable pub seek_by : Option ℕ → Result ℕ Refusal
 seek_by none = Err Damaged
 seek_by (some at) = Ok at
 
-unfoldable pub seek_of : Store → (index runs table : List ℕ) → ℕ → ℕ → Result ℕ Refusal
-seek_of s index runs table unitig vertex =
-    Err Place when no_place s.shared table unitig vertex else
-    seek_by (place_by s.cell index (vertex_coord s.shared runs table unitig vertex))
+unfoldable pub seek_of : Cell → Shared → (index runs table : List ℕ) → ℕ → ℕ → Result ℕ Refusal
+seek_of c s index runs table unitig vertex =
+    Err Place when no_place s table unitig vertex else
+    seek_by (place_by c index (vertex_coord s runs table unitig vertex))
 
-unfoldable pub by_seek : Store → (file : List ℕ) → Result ℕ Refusal → List ℕ → Answer × List ℕ
-by_seek s file (Err r) out = (refused (number_of r), out)
-by_seek s file (Ok at) out = shown_by (set_from s.colors s.cell file (some at)) out
+unfoldable pub by_seek : ℕ → Cell → (file : List ℕ) → Result ℕ Refusal → List ℕ → Answer × List ℕ
+by_seek N c file (Err r) out = (refused (number_of r), out)
+by_seek N c file (Ok at) out = shown_by (set_from N c file (some at)) out
 
 -- reading a record is refused for want of space (3), or because it is damaged in some way (5)
 unfoldable pub damage_or : Refusal → Refusal

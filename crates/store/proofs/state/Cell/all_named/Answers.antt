@@ -12,5 +12,5 @@ use Rattle.store.proofs.state.Cell.all_named.Goals as goal
 
 pub returns : goal.returns
 returns c =
-    all_from_yields_List (λ (r : ℕ). not (unnamed c.args.self.worker c.args.self.sets (coordinate r))) _ _ _ c.all.ensures.ran (YieldsList-from_slice c.args.piece.now cc) (λ x b q k. search (rules, tests))
-    ∙ named_all c.args.self.worker c.args.self.sets c.args.piece.now
+    all_from_yields_List (λ (r : ℕ). not (unnamed c.args.self.worker c.args.self.sets (coordinate r))) _ _ _ c.all.ensures.ran (YieldsList-from_slice c.args.runs.now cc) (λ x b q k. search (rules, tests))
+    ∙ named_all c.args.self.worker c.args.self.sets c.args.runs.now

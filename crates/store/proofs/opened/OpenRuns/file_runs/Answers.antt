@@ -1,5 +1,5 @@
 use Rattle.store.proofs.Laws.Closing.{line_filed, cycle_filed}
-use Rattle.store.proofs.state.Cell.file_runs.Goals as goal
+use Rattle.store.proofs.opened.OpenRuns.file_runs.Goals as goal
 
 pub returns-in-Line : goal.returns-in-Line
 returns-in-Line c = search (line_filed)
