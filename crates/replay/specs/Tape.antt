@@ -63,7 +63,7 @@ lent_of h ids pieces out =
 unfoldable pub room_of : Head → ℕ → ℕ
 room_of h left = 0 when ltb h.kind 4 else min h.count left
 
--- ---- the same as the code goes: the numbers mean a call
+-- ---- the call that they mean
 
 unfoldable pub call_of : Head → Call
 call_of h =
@@ -72,19 +72,6 @@ call_of h =
     call.Close h.a Line when eqb h.kind 2 else
     call.Close h.a (Cycle h.b) when eqb h.kind 3 else
     call.Show h.a h.b h.count
-
-unfoldable pub lent_by : Call → (ids pieces out : List ℕ) → LentCall
-lent_by (call.Add i from count) ids pieces out = updating i (add (part ids from count))
-lent_by (call.Join i n reversed from count) ids pieces out = updating i (join n reversed (part pieces from count))
-lent_by (call.Close i Line) ids pieces out = updating i (close line)
-lent_by (call.Close i (Cycle pivot)) ids pieces out = updating i (close (cycle pivot))
-lent_by (call.Show unitig vertex count) ids pieces out = showing unitig vertex out
-
-unfoldable pub room_by : Call → ℕ → ℕ
-room_by (call.Add i from count) left = 0
-room_by (call.Join i n reversed from count) left = 0
-room_by (call.Close i way) left = 0
-room_by (call.Show unitig vertex count) left = min count left
 
 -- ---- a list of calls
 

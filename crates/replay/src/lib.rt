@@ -1,10 +1,12 @@
 // Runs a list of calls, six numbers each, through the store's methods: demand 3 of running code.
+// `as` stands where no `From` leads, from u32 to usize.
 #![tactic(auto)]
 
 ghost use Rattle.std.specs.Prelude.{◌≡◌, ◌+◌, ◌*◌, ◌≤◌, length};
 ghost use Rattle.store.specs.State.{bufs, of_answer};
 ghost use Rattle.store.specs.Demand.{store_step, seen};
-ghost use Rattle.replay.specs.Tape.{value_of, part, head_at, call_of, lent_by, room_by, tape, replay_step, session_claim};
+ghost use Rattle.replay.specs.Tape.{value_of, part, head_at, call_of, tape, replay_step, session_claim};
+ghost use Rattle.replay.specs.Inside.{lent_by, room_by};
 
 use base::{Refusal, code_of};
 use store::state::{Store, Told, Way};
@@ -88,7 +90,7 @@ impl From<Head> for Call {
 
 impl Call {
     // How many places of the output a call is lent.
-    #[tactic(auto, unfolding(crate::specs::Tape::room_by))]
+    #[tactic(auto, unfolding(crate::specs::Inside::room_by))]
     fn room(self, left: usize) -> usize
         ensures { (result ≡ room_by self left) × (result ≤ left) }
     {
@@ -120,18 +122,19 @@ fn part<T>(pool: &[T], from: u32, count: u32) -> &[T]
     &pool[at..end]
 }
 
+// The six numbers of call i.
 fn head_at(calls: &[u32], i: usize) -> Head
     requires { 6 * i + 6 ≤ length calls.now }
     ensures { result ≡ head_at calls.now i }
 {
-    let at = 6 * i;
+    let [kind, a, b, c, from, count] = *calls[6 * i..].first_chunk::<6>().unwrap();
     Head {
-        kind: calls[at],
-        a: calls[at + 1],
-        b: calls[at + 2],
-        c: calls[at + 3],
-        from: calls[at + 4],
-        count: calls[at + 5],
+        kind,
+        a,
+        b,
+        c,
+        from,
+        count,
     }
 }
 
@@ -210,6 +213,8 @@ pub fn replay(
     let n = (calls.len() / 6).min(refusals.len().min(answers.len()));
     let mut s = begun;
     let mut at: usize = 0;
+    // by the number of the turn, since it writes to two lent lists: the two zipped by `iter_mut` would say nothing of
+    // what they hold afterwards
     for i in 0..n {
         let call = Call::from(head_at(calls, i));
         let room = call.room(shown.len() - at);

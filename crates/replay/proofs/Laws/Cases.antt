@@ -22,7 +22,8 @@ use Rattle.store.specs.declared.state.Way.TheVariants.{Line, Cycle}
 use Rattle.store.proofs.Laws.Proved.{demand_3}
 use Rattle.replay.specs.declared.Call.{Call}
 use Rattle.replay.specs.declared.Call.TheVariants as call
-use Rattle.replay.specs.Tape.{lent_by, room_by, part, tape, replay_step, calls_to, count_of, Replayed}
+use Rattle.replay.specs.Tape.{part, tape, replay_step, calls_to, count_of, Replayed}
+use Rattle.replay.specs.Inside.{lent_by, room_by}
 
 -- ---- one call
 

@@ -28,7 +28,8 @@ use Rattle.replay.specs.declared.Head.{Head}
 use Rattle.replay.specs.declared.Call.{Call}
 use Rattle.replay.specs.declared.Call.TheVariants as call
 use Rattle.store.specs.declared.state.Way.TheVariants.{Line, Cycle}
-use Rattle.replay.specs.Tape.{refusal_of, value_of, refusal_in, value_in, out_in, part, head_at, lent_of, room_of, call_of, lent_by, room_by, lent_to, call_at, calls_to, placed, Tape, tape, keep}
+use Rattle.replay.specs.Tape.{refusal_of, value_of, refusal_in, value_in, out_in, part, head_at, lent_of, room_of, call_of, lent_to, call_at, calls_to, placed, Tape, tape, keep}
+use Rattle.replay.specs.Inside.{lent_by, room_by}
 
 -- ---- a list of calls with one more
 

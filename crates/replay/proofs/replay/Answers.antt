@@ -6,7 +6,8 @@ use Rattle.std.specs.Prelude.{Result, Ok, Err}
 use Rattle.base.specs.declared.Refusal.{Refusal}
 use Rattle.base.specs.Answers.{code_of}
 use Rattle.store.specs.State.{of_answer}
-use Rattle.replay.specs.Tape.{refusal_of, room_by, count_of, replay_step}
+use Rattle.replay.specs.Tape.{refusal_of, count_of, replay_step}
+use Rattle.replay.specs.Inside.{room_by}
 use Rattle.replay.proofs.Laws.Turns.{keep_none, lent_zero, lent_next, keep_turn, part_roomy}
 use Rattle.replay.proofs.replay.Goals as goal
 
