@@ -179,7 +179,7 @@ pub(crate) fn same_gaps<C: CodedIds>(source: Source, at: usize, set: ColorSet) -
 
 // An id to place `i` of `room`, where that is inside. A slice's `get_mut` promises nothing of the elements
 // afterwards, so the place is tested by hand.
-pub(crate) fn put_id(room: &mut [u32], i: usize, id: u32)
+fn put_id(room: &mut [u32], i: usize, id: u32)
     ensures { room.new ≡ set room.old i id }
 {
     if i < room.len() {
@@ -221,7 +221,7 @@ pub(crate) struct Checked<'a> {
 
 // The numbers from `from` up to `to` to place `k` of `out` on: the place behind them. By index, since a `zip` of
 // the places of `out` with the numbers promises nothing of `out` afterwards.
-pub(crate) fn fill_numbers(from: u32, to: u32, out: &mut [u32], k: usize) -> usize
+fn fill_numbers(from: u32, to: u32, out: &mut [u32], k: usize) -> usize
     requires { (from ≤ to) × (k + (to - from) ≤ length out.old) }
     ensures { (result ≡ k + (to - from)) × (out.new ≡ over (take k out.old ++ numbers from (to - from)) out.old) }
 {
@@ -232,7 +232,7 @@ pub(crate) fn fill_numbers(from: u32, to: u32, out: &mut [u32], k: usize) -> usi
 }
 
 // The ids below `top` but for `others`, to the front of `out`.
-pub(crate) fn fill_outside(others: &[u32], top: u32, out: &mut [u32])
+fn fill_outside(others: &[u32], top: u32, out: &mut [u32])
     requires { Within 0 top others.now × (top ≤ length others.now + length out.old) }
     ensures { out.new ≡ over (absent top others.now) out.old }
 {

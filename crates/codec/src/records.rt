@@ -84,33 +84,36 @@ pub fn read_color_record(n: u32, input: &[u8], ids: &mut [u32]) -> Result<Given,
         return Err(Refusal::Cut);
     }
     let bytes = len + value;
-    let source = Source::new(&input[len..bytes]);
-    let items = read_payload(colors, source, ids)?;
+    let items = read_payload(colors, &input[len..bytes], ids)?;
     Ok(Given { items, bytes })
 }
 
 // The set of a payload to the front of `ids`: how many they are. Ids coded as distances are kept while they are
-// tested, so that most sets are decoded once.
-fn read_payload(colors: Colors, source: Source, ids: &mut [u32]) -> Result<usize, Refusal>
-    ensures { (of_written result, ids.new) ≡ put_set (decode_set colors.n source.entry.bytes.now) ids.old }
+// tested, so that most sets are decoded once. The payload comes as a slice: a `Source`, of three words, would go
+// through memory at these calls, which slows small sets.
+fn read_payload(colors: Colors, payload: &[u8], ids: &mut [u32]) -> Result<usize, Refusal>
+    requires { length payload.now < 2 ^ 60 }
+    ensures { (of_written result, ids.new) ≡ put_set (decode_set colors.n payload.now) ids.old }
 {
-    if source.bytes.len() < 64 {
+    if payload.len() < 64 {
         let mut room = [0u32; 32];
-        return read_by_room(colors, source, ids, &mut room);
+        return read_by_room(colors, payload, ids, &mut room);
     }
     let mut room = [0u32; 1024];
-    read_by_room(colors, source, ids, &mut room)
+    read_by_room(colors, payload, ids, &mut room)
 }
 
 // The same, with the ids kept in `room`.
 fn read_by_room(
     colors: Colors,
-    source: Source,
+    payload: &[u8],
     ids: &mut [u32],
     room: &mut [u32],
 ) -> Result<usize, Refusal>
-    ensures { (of_written result, ids.new) ≡ put_set (decode_set colors.n source.entry.bytes.now) ids.old }
+    requires { length payload.now < 2 ^ 60 }
+    ensures { (of_written result, ids.new) ≡ put_set (decode_set colors.n payload.now) ids.old }
 {
+    let source = Source::new(payload);
     let Some(body) = crate::sets::check_set(colors, source, room) else {
         return Err(Refusal::Damaged);
     };

@@ -28,12 +28,12 @@ returns-in_err-items c =
     let input = c.args.input.now in
     let p = err_from_is_err_and c.from_residual-in_err-items.result c.from_residual-in_err-items.ensures.1 in
     let b = prefix_behind input _ _ c.in_ok-value.ensures in
-    let put = rw (c.new-source.ensures, c.in_ok-colors.ensures.taken.1) at c.in_err-items.ensures in
+    let put = rw c.in_ok-colors.ensures.taken.1 at c.in_err-items.ensures in
     rw (p.1, p.2) (payload_put c.args.n input _ _ c.args.ids.now b.1 (omega arith) _ put ∙ read_whole c.args.n input c.args.ids.now c.in_ok-colors.ensures.taken.0 _ _ b.0)
 
 pub returns : goal.returns
 returns c =
     let input = c.args.input.now in
     let b = prefix_behind input _ _ c.in_ok-value.ensures in
-    let put = rw (c.new-source.ensures, c.in_ok-colors.ensures.taken.1) at c.in_ok-items.ensures in
+    let put = rw c.in_ok-colors.ensures.taken.1 at c.in_ok-items.ensures in
     payload_put c.args.n input _ _ c.args.ids.now b.1 (omega arith) _ put ∙ read_whole c.args.n input c.args.ids.now c.in_ok-colors.ensures.taken.0 _ _ b.0
