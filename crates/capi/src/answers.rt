@@ -1,4 +1,5 @@
-// How an answer crosses to C: a refusal as its number, and each value of a success in the number lent for it.
+// How an answer crosses to C: a refusal as its number, and each value of a success in the number lent for it. C's numbers have 64 bits: `as`,
+// since there is no `From` from usize to u64, and `try_from` would add a case that can't come.
 ghost use Rattle.std.specs.Prelude.{◌≡◌};
 ghost use Rattle.base.specs.Answers.{of_written, of_given};
 ghost use Rattle.capi.specs.Exports.{code, value};

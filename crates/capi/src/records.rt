@@ -1,4 +1,4 @@
-// Records and their index.
+// Records and their index. A count of 64 bits becomes a usize by `as`, since there is no `From` for it.
 ghost use Rattle.std.specs.Prelude.{◌≡◌};
 ghost use Rattle.codec.specs.Records.{write_record, read_into};
 ghost use Rattle.codec.specs.Index.{make_index};

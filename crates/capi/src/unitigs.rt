@@ -1,5 +1,5 @@
 // Run lists and run bytes. A run is one 64-bit number: its first vertex in the low 24 bits, its
-// coordinate in the high 40.
+// coordinate in the high 40. Counts are u64 in C and usize here: `as`, since there is no `From` between them.
 ghost use Rattle.std.specs.Prelude.{◌≡◌};
 ghost use Rattle.runs.specs.Reverse.{reverse_into, reverse_in_place};
 ghost use Rattle.runs.specs.Append.{append_into};

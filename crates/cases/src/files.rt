@@ -1,6 +1,7 @@
 // Record files of the reference, each beside each: whether the one is the beginning of the other, in bytes and in sets.
 // A line of the file `files` is a record file: its colour count, how many sets it holds, how many bytes, the bytes, and the
-// sets, each as its length and its ids. The work grows with the square of the lines.
+// sets, each as its length and its ids. The work grows with the square of the lines. Counts become a usize
+// by `as`, since there is no `From` for it from u64.
 use crate::numbers::{MOST_ITEMS, Narrow, fitting, list_of, numbers_of};
 use capi::records;
 use std::alloc::{AllocError, Global};

@@ -10,7 +10,7 @@ pub(crate) const MOST_ITEMS: usize = 2048;
 // Two lists, and what stands before them.
 const MOST_NUMBERS: usize = 4107;
 
-// A type that numbers of a line are cut to: a line may have any number.
+// A type that numbers of a line are cut to: a line may have any number, and a large one is cut on purpose, which no conversion of the library does.
 pub(crate) trait Narrow: Copy {
     fn of(number: u64) -> Self;
 }
@@ -33,7 +33,7 @@ impl Narrow for u64 {
     }
 }
 
-// What a hexadecimal digit says. Small letters are none.
+// What a hexadecimal digit says. Small letters are none: std's `to_digit` takes them.
 fn digit_of(byte: u8) -> Option<u8> {
     match byte {
         b'0'..=b'9' => Some(byte - b'0'),
@@ -60,7 +60,7 @@ pub(crate) fn numbers_of(alloc: Global, line: &[u8]) -> Result<Vec<u64>, AllocEr
     Ok(numbers)
 }
 
-// A list that begins with its length, and what stands behind it.
+// A list that begins with its length, a usize by `as`, since there is no `From` for it from u64; and what stands behind it.
 pub(crate) fn list_of(numbers: &[u64]) -> Option<(&[u64], &[u64])> {
     let (count, rest) = numbers.split_first()?;
     rest.split_at_checked(*count as usize)

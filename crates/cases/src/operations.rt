@@ -1,4 +1,4 @@
-// The call of each operation, over outputs that hold 165 at each place.
+// The call of each operation, over outputs that hold 165 at each place. A count becomes a usize by `as`, since there is no `From` for it from u64.
 use crate::numbers::fitting;
 use crate::recorded::{Answer, Operation, Recorded};
 use capi::{records, unitigs};

@@ -1,8 +1,9 @@
-// A recorded call, and what it must answer.
+// A recorded call, and what it must answer. A count becomes a usize by `as`, since there is no `From` for it from u64.
 ghost use Rattle.std.specs.Prelude.{◌≡◌, IfOk, vec_len};
 
 use crate::numbers::{MOST_ITEMS, Narrow, fitting, list_of, numbers_of};
 use crate::operations;
+use shell::fields::front_mut;
 use std::alloc::{AllocError, Global};
 use std::io;
 
@@ -132,8 +133,7 @@ impl<'a> Recorded<'a> {
 
     // As many places of an output as are lent, or all where it has fewer.
     pub fn lent<'b, T>(&self, output: &'b mut [T]) -> &'b mut [T] {
-        let end = self.space.min(output.len());
-        &mut output[..end]
+        front_mut(output, self.space)
     }
 
     // Whether the answer is the one of the line, and the output holds what it says, with nothing altered behind it.

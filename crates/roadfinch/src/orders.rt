@@ -1,4 +1,5 @@
-// What a line asks for, done.
+// What a line asks for, done. Numbers become lengths by `as`: there is no `From` for it from u32 or u64, and `try_from` would add a
+// case that can't come.
 use crate::memory::Memory;
 use crate::parse;
 use crate::replies::{Reply, Trouble, View};

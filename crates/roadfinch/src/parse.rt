@@ -28,31 +28,23 @@ pub(crate) fn last_word<'a>(words: &mut Words<'a>) -> Result<&'a [u8], Fault> {
     Ok(last)
 }
 
-// Which of two words stands next: whether it is the second.
-fn is_second(words: &mut Words, first: &[u8], second: &[u8]) -> Result<bool, Fault> {
-    let word = word(words)?;
-    if word == first {
-        return Ok(false);
-    }
-    if word == second {
-        return Ok(true);
-    }
-    Err(Fault::Way)
-}
-
 // forward|reverse
 pub(crate) fn is_reversed(words: &mut Words) -> Result<bool, Fault> {
-    is_second(words, b"forward", b"reverse")
+    match word(words)? {
+        b"forward" => Ok(false),
+        b"reverse" => Ok(true),
+        _ => Err(Fault::Way),
+    }
 }
 
 // line · cycle PIVOT
 pub(crate) fn way(words: &mut Words) -> Result<Way, Fault> {
-    let way = if is_second(words, b"line", b"cycle")? {
-        Way::Cycle {
+    let way = match word(words)? {
+        b"line" => Way::Line,
+        b"cycle" => Way::Cycle {
             pivot: number(words)?,
-        }
-    } else {
-        Way::Line
+        },
+        _ => return Err(Fault::Way),
     };
     end(words)?;
     Ok(way)

@@ -1,4 +1,4 @@
-// A reply as text.
+// A reply as text. A length is printed as a u64: `as`, since there is no `From` from usize to u64.
 use crate::help::HELP;
 use crate::orders::Desk;
 use crate::output::Output;

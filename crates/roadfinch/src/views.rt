@@ -1,4 +1,4 @@
-// What the store holds, in text.
+// What the store holds, in text. `as`, since there is no `From` between usize and u32 or u64, and `try_from` would add a case that can't come.
 use crate::memory::Memory;
 use crate::output::Output;
 use shell::fields::{front, part};

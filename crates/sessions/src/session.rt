@@ -1,4 +1,4 @@
-// A session as its four lines say it.
+// A session as its four lines say it. Numbers become lengths by `as`, since there is no `From` from u32 to usize.
 use shell::lengths::Lengths;
 use shell::lists::Word;
 use shell::words::Words;

@@ -1,4 +1,5 @@
-// A number as decimal digits.
+// A number as decimal digits. `as`, since there is no `From` from u32 to usize, and a digit fits a byte, for which `try_from` would add a case
+// that can't come.
 ghost use Rattle.std.specs.Prelude.{◌≡◌, ◌<◌, ◌≤◌, length, take};
 ghost use Rattle.shell.specs.Digits.{hex_digit_ascii, last_digits, IsDigitCount};
 
@@ -17,7 +18,8 @@ fn digit_count(n: u64) -> usize
     n.checked_ilog10().unwrap_or(0) as usize + 1
 }
 
-// The last digits of a number, as many as a buffer holds. Written here and not by `write!`, since the contract is over the bytes of the buffer.
+// The last digits of a number, as many as a buffer holds. Written here and not by `write!`, since the contract is over the bytes of the buffer,
+// and by index, since after an adapter of `iter_mut` the library says nothing of the slice.
 fn write_digits(n: u64, out: &mut [u8])
     ensures { out.new ≡ last_digits 10 (length out.old) n }
 {

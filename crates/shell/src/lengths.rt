@@ -1,4 +1,4 @@
-// How long a store's six buffers are. No `From` leads from u32 to usize, so the numbers of a line become lengths by `as`.
+// How long a store's six buffers are. The numbers of a line become lengths by `as`, since there is no `From` from u32 to usize.
 ghost use Rattle.std.specs.Prelude.{◌≡◌};
 ghost use Rattle.shell.specs.Lengths.{lengths_of};
 

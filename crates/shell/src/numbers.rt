@@ -47,7 +47,7 @@ pub(crate) fn number_to(text: &[u8], most: u64) -> Result<u64, NumberError>
     Ok(value)
 }
 
-// A number of 32 bits.
+// A number of 32 bits. `as`, since it was read as one that fits: `try_from` would add a case that can't come.
 pub fn number_in(text: &[u8]) -> Result<u32, NumberError>
     ensures { result ≡ decimal_of 4294967295 text.now }
 {

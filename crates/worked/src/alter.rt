@@ -1,4 +1,4 @@
-// A state and buffers that no call left.
+// A state and buffers that no call left. Numbers become lengths by `as`, since there is no `From` from u64 to usize.
 use crate::args::{StepError, narrow, size, wide};
 use crate::bench::Bench;
 use crate::replies::Reply;

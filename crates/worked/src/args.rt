@@ -52,7 +52,7 @@ pub(crate) fn number(words: &mut Words<'_>) -> Result<u32, Fault> {
     Ok(narrow(wide(words)?))
 }
 
-// The same as a count or a place.
+// The same as a count or a place: `as`, since there is no `From` from u64 to usize.
 pub(crate) fn size(words: &mut Words<'_>) -> Result<usize, Fault> {
     Ok(wide(words)? as usize)
 }

@@ -1,4 +1,4 @@
-// Run lists, into an output that holds 8 at each place.
+// Run lists, into an output that holds 8 at each place. A vertex count becomes a usize by `as`, since there is no `From` for it from u32.
 use crate::args::{StepError, flag, list, number, size};
 use crate::bench::Bench;
 use crate::buffers::{Buffer, EIGHT, WORDS};

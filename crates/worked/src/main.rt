@@ -20,14 +20,6 @@ use std::io;
 // How many bytes of input are read.
 const MOST_BYTES: usize = 65536;
 
-// A step without the ';' behind it.
-fn without_end(step: &[u8]) -> &[u8] {
-    match step {
-        [step @ .., b';'] => step,
-        _ => step,
-    }
-}
-
 fn main(rt: HostRuntime) -> io::Result<()> {
     let alloc = rt.alloc();
     let mut text = vec![in alloc; 0u8; MOST_BYTES]?;
@@ -38,7 +30,7 @@ fn main(rt: HostRuntime) -> io::Result<()> {
         // A line without a colon is a comment, or empty.
         if let Some(colon) = line.iter().position(|byte| *byte == b':') {
             for step in line[colon + 1..].split_inclusive(|byte| *byte == b';') {
-                bench.step(without_end(step))?;
+                bench.step(step.strip_suffix(b";").unwrap_or(step))?;
             }
             rt.write_all(&line[..colon])?;
             println!(rt; ": {}", bench.reply)?;

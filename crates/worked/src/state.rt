@@ -1,4 +1,5 @@
-// A store over its buffers, and its calls: what each answers, and whether it left the state and the buffers as they were.
+// A store over its buffers, and its calls: what each answers, and whether it left the state and the buffers as they were. A count of ids becomes a
+// usize by `as`, since there is no `From` for it from u64.
 use crate::buffers::{Buffer, Buffers, EIGHT, WORDS};
 use crate::replies::{Reply, Said};
 use shell::lengths::Lengths;

@@ -1,4 +1,5 @@
-// What lies in a buffer up to its used end; behind that each place is to hold 9 still.
+// What lies in a buffer up to its used end; behind that each place is to hold 9 still. Counts become a usize by `as`, since there is no `From` for it
+// from u32.
 use crate::args::StepError;
 use crate::bench::Bench;
 use crate::buffers::Buffer;
