@@ -52,8 +52,8 @@ fn count_up(ids: &[u32], i: usize, from: u32) -> usize
     ensures { (result ≡ up_in ids.now i from 8) × (result ≤ 8) }
 {
     let mut count: u32 = 0;
-    for j in 0..8 {
-        count += u32::from(ids[i + j as usize] == from + j);
+    for (j, &id) in (0..8).zip(&ids[i..i + 8]) {
+        count += u32::from(id == from + j);
     }
     count as usize
 }
@@ -64,8 +64,8 @@ fn skip_last(set: ColorSet, c: Cursor, low: usize) -> usize
     ensures { Skipped set.entry.n set.entry.ids.now c.i c.from result × Within (c.from + result + 1) set.entry.n (drop (c.i + result) set.entry.ids.now) }
 {
     let left = set.ids.len() - c.i;
-    for k in low..left {
-        if set.ids[c.i + k] as usize != c.from as usize + k {
+    for (k, &id) in (low..left).zip(&set.ids[c.i + low..]) {
+        if id as usize != c.from as usize + k {
             return k;
         }
     }

@@ -282,3 +282,19 @@ module _ (dense : Bool) (N : ℕ) (ids : List ℕ) where
           in
           let l : left ≡ delta (id - c.from) ++ more = sym (drop_at done left (length done) refl) ∙ ap (drop (length done)) e ∙ drop_at done (delta (id - c.from) ++ more) (length done) refl in
           (more, ap read_delta l ∙ delta_read (id - c.from) more)
+
+-- ---- what is left of a list, at its next
+
+pub record NextOf (xs : List ℕ) (j x : ℕ) (rest : List ℕ) : Type 0 where
+  pub inside : j < length xs
+  pub is : get_or xs j 0 ≡ x
+  pub behind : rest ≡ drop (j + 1) xs
+
+pub next_of : (xs : List ℕ) (j x : ℕ) (rest : List ℕ) → drop j xs ≡ x ∷ rest → NextOf xs j x rest
+next_of xs j x rest e =
+    let z : j + 0 ≡ j = omega arith in
+    record {
+      inside = omega (arith, length-drop j xs, ap length e);
+      is = ap (λ (n : ℕ). get_or xs n 0) (sym z) ∙ sym (get_or-drop j xs 0 0) ∙ ap (λ (l : List ℕ). get_or l 0 0) e;
+      behind = sym (ap (drop 1) e) ∙ drop-drop 1 j xs;
+    }
