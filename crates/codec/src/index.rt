@@ -56,8 +56,8 @@ fn fill_index(bytes: &[u8], count: usize, out: &mut [u64])
     ensures { out.new ≡ over (entries_in (index_of count bytes.now)) out.old }
 {
     let mut at: usize = 0;
-    for i in 0..count {
-        out[i] = at as u64;
+    for entry in &mut out[..count] {
+        *entry = at as u64;
         let Ok(next) = next_record(bytes, at) else {
             // No record is missing, so this place is never reached.
             return;
