@@ -1,4 +1,5 @@
 // Bits of a byte slice, lowest first, and a writer of bits.
+// `as` below: no `From` leads from u32 to usize.
 ghost use Rattle.std.specs.Prelude.{◌≡◌, ◌++◌, ◌+◌, ◌-◌, ◌*◌, ◌<◌, ◌≤◌, ◌^◌, length, slice_get, take, drop};
 ghost use Rattle.base.specs.Parts.{over};
 ghost use Rattle.codec.specs.Bits.{bits_of, value_of, low_bits, pack_bits, AreBytes};

@@ -1,4 +1,5 @@
 // Elias gamma and delta codes.
+// `as` below: no `From` leads from u64 to u32, or from either to usize, and no number is cut by it, which is proved.
 ghost use Rattle.std.specs.Prelude.{◌≡◌, ◌+◌, ◌-◌, ◌*◌, ◌/◌, ◌%◌, ◌<◌, ◌≤◌, ◌^◌, length};
 ghost use Rattle.codec.specs.Bits.{low_bits};
 ghost use Rattle.codec.specs.Codes.{high_bit, gamma, delta, read_low, read_gamma, read_delta};

@@ -1,4 +1,5 @@
 // The index of a record file: where each record begins, and where the last one ends.
+// `as` below: no `From` leads from u32 to usize, or from usize to u64.
 ghost use Rattle.std.specs.Prelude.{◌≡◌, [], ◌≤◌, ◌<◌, length};
 ghost use Rattle.base.specs.Answers.{done, of_made};
 ghost use Rattle.base.specs.Parts.{over};

@@ -1,4 +1,5 @@
 // LEB128 length prefixes: seven bits a byte, low group first, 128 added on all but the last.
+// `as` below: each group is proved to fit a byte, and `try_from` would add a case that can't come.
 ghost use Rattle.std.specs.Prelude.{◌≡◌, ◌+◌, ◌*◌, ◌<◌, ◌≤◌, ◌^◌, length};
 ghost use Rattle.base.specs.Answers.{of_written};
 ghost use Rattle.base.specs.Parts.{over};
