@@ -7,7 +7,7 @@ ghost use Rattle.runs.specs.Inside.Oriented.{list_of};
 ghost use Rattle.runs.specs.Append.{of_appended, shifted, skip, append_runs, bad_counts, joinable, result_into, append_into};
 ghost use Rattle.runs.specs.Inside.Pieces.{Admitted};
 
-use crate::oriented::Oriented;
+use crate::oriented::{Oriented, Shifted};
 use crate::{orders, words};
 use base::Refusal;
 
@@ -44,15 +44,15 @@ fn skip_of(runs: &[u64], piece: &Oriented) -> usize
     usize::from(last == first)
 }
 
-// The piece's runs from `from` on behind the output's, `shift` vertices further on.
-fn fill_appended(out: &mut [u64], used: usize, shift: u32, piece: &Oriented, from: usize)
-    requires { (shift + piece.now.n < 16777216) × (from ≤ 1) × (0 < length piece.now.runs.now) × (used + (length piece.now.runs.now - from) ≤ length out.old) }
-    ensures { out.new ≡ paste out.old used (shifted shift (drop from (list_of piece.now))) (length piece.now.runs.now - from) }
+// The piece's runs from `from` on behind the output's.
+fn fill_appended(out: &mut [u64], used: usize, piece: &Shifted, from: usize)
+    requires { (from ≤ 1) × (0 < length piece.now.list.runs.now) × (used + (length piece.now.list.runs.now - from) ≤ length out.old) }
+    ensures { out.new ≡ paste out.old used (shifted piece.now.shift (drop from (list_of piece.now.list))) (length piece.now.list.runs.now - from) }
 {
     if from == 0 {
-        piece.fill(shift, &mut out[used..]);
+        piece.fill(&mut out[used..]);
     } else {
-        piece.fill_rest(shift, &mut out[used..]);
+        piece.fill_rest(&mut out[used..]);
     }
 }
 
@@ -71,7 +71,11 @@ fn append_admitted(
     if out.len() < total {
         return Err(Refusal::Space);
     }
-    fill_appended(out, used, out_count - 1, piece, from);
+    let moved = Shifted {
+        list: *piece,
+        shift: out_count - 1,
+    };
+    fill_appended(out, used, &moved, from);
     Ok(Appended {
         runs: total,
         vertices: out_count + (piece.n - 1),

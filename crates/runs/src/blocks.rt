@@ -43,6 +43,7 @@ impl<'a> Blocks<'a> {
         requires { self.now.count ≤ length out.old }
         ensures { out.new ≡ over (runs_of self.now) out.old }
     {
+        // By index: no clause says what a slice holds after an adapter of `iter_mut`, as `enumerate`.
         for i in 0..self.count {
             out[i] = self.run_at(i);
         }

@@ -137,7 +137,7 @@ pub(crate) fn end_of(runs: &[u64], n: u32, i: usize) -> u32
     runs.get(i + 1).map_or(n, |next| words::offset(*next))
 }
 
-// The coordinate of the last run, or 0 where there is none.
+// The coordinate of the last run, or 0 where there is none. No `Option`: it is public, can't fail, and its definition says 0.
 pub fn last_coordinate(runs: &[u64]) -> u64
     ensures { result ≡ last_coord runs.now }
 {

@@ -3,7 +3,6 @@ ghost use Rattle.std.specs.Prelude.{◌≡◌, ◌+◌, ◌<◌, ◌≤◌, [], 
 ghost use Rattle.base.specs.Parts.{over};
 ghost use Rattle.runs.specs.Colours.{end_at};
 ghost use Rattle.runs.specs.Inside.Lists.{Taken};
-ghost use Rattle.runs.specs.Inside.Pieces.{Movable};
 ghost use Rattle.runs.specs.Reverse.{reverse_runs};
 ghost use Rattle.runs.specs.Append.{shifted};
 
@@ -45,52 +44,68 @@ impl Oriented<'_> {
             orders::end_of(self.runs, self.n, i)
         }
     }
+}
 
-    // The runs behind the first, `shift` vertices further on, to the front of `out`.
-    pub(crate) fn fill_rest(&self, shift: u32, out: &mut [u64])
-        requires { (shift + self.now.n < 16777216) × (0 < length self.now.runs.now) × (length self.now.runs.now ≤ length out.old + 1) }
-        ensures { out.new ≡ over (shifted shift (drop 1 (list_of self.now))) out.old }
-    {
-        if self.reversed {
-            fill_backward(self.runs, self.n, shift, out);
-        } else {
-            fill_forward(self.runs, u64::from(shift), out);
-        }
-    }
+// A list that is to stand `shift` vertices further on.
+#[derive(Clone, Copy)]
+pub(crate) struct Shifted<'a> {
+    pub(crate) list: Oriented<'a>,
+    pub(crate) shift: u32,
+    ghost few: { shift + list.n < 16777216 },
+}
 
-    // All runs, `shift` vertices further on, to the front of `out`.
-    pub(crate) fn fill(&self, shift: u32, out: &mut [u64])
-        requires { (shift + self.now.n < 16777216) × (length self.now.runs.now ≤ length out.old) }
-        ensures { out.new ≡ over (shifted shift (list_of self.now)) out.old }
+impl Shifted<'_> {
+    ghost use Rattle.runs.specs.Inside.Oriented.{list_of};
+
+    // All runs to the front of `out`.
+    pub(crate) fn fill(&self, out: &mut [u64])
+        requires { length self.now.list.runs.now ≤ length out.old }
+        ensures { out.new ≡ over (shifted self.now.shift (list_of self.now.list)) out.old }
     {
-        if self.runs.is_empty() {
+        if self.list.runs.is_empty() {
             return;
         }
-        let first = words::pack(shift, words::coordinate(self.run_at(0)));
+        let first = words::pack(self.shift, words::coordinate(self.list.run_at(0)));
         put_front(out, first);
-        self.fill_rest(shift, &mut out[1..]);
+        self.fill_rest(&mut out[1..]);
     }
-}
 
-// The runs behind the first, `shift` vertices further on, to the front of `out`.
-fn fill_forward(runs: &[u64], shift: u64, out: &mut [u64])
-    requires { Movable shift runs.now × (0 < length runs.now) × (length runs.now ≤ length out.old + 1) }
-    ensures { out.new ≡ over (shifted shift (drop 1 runs.now)) out.old }
-{
-    for i in 0..runs.len() - 1 {
-        out[i] = runs[i + 1] + shift;
+    // The runs behind the first to the front of `out`.
+    pub(crate) fn fill_rest(&self, out: &mut [u64])
+        requires { (0 < length self.now.list.runs.now) × (length self.now.list.runs.now ≤ length out.old + 1) }
+        ensures { out.new ≡ over (shifted self.now.shift (drop 1 (list_of self.now.list))) out.old }
+    {
+        if self.list.reversed {
+            self.fill_backward(out);
+        } else {
+            self.fill_forward(out);
+        }
     }
-}
 
-// The same of the reversed list. A loop of its own: each run needs the one that it stood before, which `fill_forward` doesn't read.
-fn fill_backward(runs: &[u64], n: u32, shift: u32, out: &mut [u64])
-    requires { Taken n runs.now × (shift + n < 16777216) × (0 < length runs.now) × (length runs.now ≤ length out.old + 1) }
-    ensures { out.new ≡ over (shifted shift (drop 1 (reverse_runs n runs.now))) out.old }
-{
-    let m = runs.len();
-    let top = u64::from(n + shift);
-    for i in 0..m - 1 {
-        out[i] = words::backed(runs[m - 2 - i], runs[m - 1 - i], top);
+    // The same of a list that isn't reversed.
+    fn fill_forward(&self, out: &mut [u64])
+        requires { (0 < length self.now.list.runs.now) × (length self.now.list.runs.now ≤ length out.old + 1) }
+        ensures { out.new ≡ over (shifted self.now.shift (drop 1 self.now.list.runs.now)) out.old }
+    {
+        let shift = u64::from(self.shift);
+        // `out` by index: no clause says what a slice holds after an adapter of `iter_mut`, as `zip`.
+        for (i, run) in self.list.runs[1..].iter().enumerate() {
+            out[i] = *run + shift;
+        }
+    }
+
+    // The same of a reversed list. A loop of its own: each run needs the one that it stood before, which `fill_forward` doesn't read.
+    fn fill_backward(&self, out: &mut [u64])
+        requires { (0 < length self.now.list.runs.now) × (length self.now.list.runs.now ≤ length out.old + 1) }
+        ensures { out.new ≡ over (shifted self.now.shift (drop 1 (reverse_runs self.now.list.n self.now.list.runs.now))) out.old }
+    {
+        let runs = self.list.runs;
+        let m = runs.len();
+        let top = u64::from(self.list.n + self.shift);
+        // By index, likewise; and each run is read with the one behind it, from the last on.
+        for i in 0..m - 1 {
+            out[i] = words::backed(runs[m - 2 - i], runs[m - 1 - i], top);
+        }
     }
 }
 

@@ -4,11 +4,12 @@ ghost use Rattle.base.specs.Answers.{of_written};
 ghost use Rattle.runs.specs.Colours.{first_coord};
 ghost use Rattle.runs.specs.Reverse.{oriented, orient_into, reverse_into, reverse_in_place};
 
-use crate::oriented::Oriented;
+use crate::oriented::{Oriented, Shifted};
 use crate::{orders, swap, words};
 use base::Refusal;
 
-// The coordinate of the first run of the oriented list, or 0 where there is none.
+// The coordinate of the first run of the oriented list, or 0 where there is none. No `Option`: it is public, can't fail, and its
+// definition says 0.
 #[tactic(auto, using(crate::proofs::Laws::Reverse::first_yes, crate::proofs::Laws::Reverse::first_no))]
 pub fn first_coordinate(runs: &[u64], n: u32, reversed: bool) -> u64
     ensures { result ≡ first_coord (oriented reversed n runs.now) }
@@ -34,7 +35,7 @@ pub fn orient_color_runs(
         return Err(Refusal::Space);
     }
     let list = Oriented { runs, n, reversed };
-    list.fill(0, out);
+    Shifted { list, shift: 0 }.fill(out);
     Ok(list.runs.len())
 }
 

@@ -3,18 +3,9 @@ ghost use Rattle.std.specs.Prelude.{◌≡◌, ◌+◌, ◌<◌, length};
 ghost use Rattle.runs.specs.Words.{offset};
 ghost use Rattle.runs.specs.Inside.Lists.{Taken};
 ghost use Rattle.runs.specs.Reverse.{reverse_runs};
-ghost use Rattle.runs.specs.Inside.Swap.{Swapped, Backed, FourFit, put_four};
+ghost use Rattle.runs.specs.Inside.Swap.{Swapped, FourFit, four_back, put_four};
 
 use crate::words;
-
-// Four runs that stand side by side: they are read and written together, which takes less time than one by one.
-#[derive(Clone, Copy)]
-pub(crate) struct Four {
-    pub one: u64,
-    pub two: u64,
-    pub three: u64,
-    pub four: u64,
-}
 
 // How far swapping is: `done` runs at each end are in place, and `behind` stood behind the run that comes next.
 #[derive(Clone, Copy)]
@@ -23,32 +14,31 @@ pub(crate) struct Ends {
     pub behind: u64,
 }
 
-// The runs from place p on, each begun where it ended from the other side; the last ended where `next` begins.
-fn four_back(runs: &[u64], p: usize, next: u64, top: u64) -> Four
+// The four runs from place p on, last first, each begun where it ended from the other side; the last ended where `next` begins. Four are
+// read and written together, which takes less time than one by one.
+fn four_back(runs: &[u64], p: usize, next: u64, top: u64) -> [u64; 4]
     requires { FourFit top runs.now p next }
-    ensures { Backed top runs.now p next result }
+    ensures { result ≡ four_back top runs.now p next }
 {
-    let a = runs[p];
-    let b = runs[p + 1];
-    let c = runs[p + 2];
-    let d = runs[p + 3];
-    Four {
-        one: words::backed(a, b, top),
-        two: words::backed(b, c, top),
-        three: words::backed(c, d, top),
-        four: words::backed(d, next, top),
-    }
+    let [a, b, c, d] = *runs[p..].first_chunk::<4>().unwrap();
+    [
+        words::backed(d, next, top),
+        words::backed(c, d, top),
+        words::backed(b, c, top),
+        words::backed(a, b, top),
+    ]
 }
 
-// The four, last first, from place p on.
-fn put_four(runs: &mut [u64], p: usize, f: Four)
+// Four runs from place p on.
+fn put_four(runs: &mut [u64], p: usize, four: [u64; 4])
     requires { p + 3 < length runs.old }
-    ensures { runs.new ≡ put_four runs.old p f }
+    ensures { runs.new ≡ put_four runs.old p four }
 {
-    runs[p] = f.four;
-    runs[p + 1] = f.three;
-    runs[p + 2] = f.two;
-    runs[p + 3] = f.one;
+    let [a, b, c, d] = four;
+    runs[p] = a;
+    runs[p + 1] = b;
+    runs[p + 2] = c;
+    runs[p + 3] = d;
 }
 
 // Four runs of each end change places as long as there are eight between.
@@ -87,6 +77,7 @@ pub(crate) fn swap_ends(runs: &mut [u64], n: u32)
     let top = u64::from(n);
     let ends = swap_fours(runs, n);
     let mut behind = ends.behind;
+    // By index: each step reads and writes both ends of one slice.
     for i in ends.done..middle {
         let k = m - 1 - i;
         let a = runs[i];

@@ -14,7 +14,6 @@ use Rattle.runs.specs.Colours.{end_at, first_coord}
 use Rattle.runs.specs.Inside.Lists.{Taken}
 use Rattle.runs.specs.Reverse.{reverse_runs, oriented}
 use Rattle.runs.specs.Append.{shift, shifted}
-use Rattle.runs.specs.Inside.Pieces.{Movable}
 use Rattle.runs.proofs.Laws.Lists.{Filled, fill_more, fill_end}
 use Rattle.runs.proofs.Laws.Words.{offset_pack, coordinate_pack, pack_of}
 use Rattle.runs.proofs.Laws.Orders.{run_begins, offset_le, end_le}
@@ -81,21 +80,13 @@ rest_at k ws i h =
 moved : (k w : ℕ) → w + k ≡ shift k w
 moved k w = omega arith
 
--- what is written at place i, forward and backward
-forward_at : (k : ℕ) (ws : List ℕ) (i : ℕ) → i + 1 < length ws → get_or ws (i + 1) 0 + k ≡ get_or (shifted k (drop 1 ws)) i 0
-forward_at k ws i h = moved k (get_or ws (i + 1) 0) ∙ sym (rest_at k ws i h)
-
-pub forward_more : (k : ℕ) (ws from out : List ℕ) (i : ℕ) → Filled (shifted k (drop 1 ws)) from out i → i + 1 < length ws → i < length out
-    → Filled (shifted k (drop 1 ws)) from (set out i (get_or ws (i + 1) 0 + k)) (i + 1)
-forward_more k ws from out i f h g = fill_more _ from out i _ 0 (omega (arith, length_rest k ws)) g (forward_at k ws i h) f
+pub forward_more : (k : ℕ) (ws from out : List ℕ) (i : ℕ) → Filled (shifted k ws) from out i → i < length ws → i < length out → Filled (shifted k ws) from (set out i (get_or ws i 0 + k)) (i + 1)
+forward_more k ws from out i f h g = fill_more _ from out i _ 0 (omega (arith, length_shifted k ws)) g (moved k (get_or ws i 0) ∙ sym (shifted_at k ws i h)) f
 
 pub rest_end : (k : ℕ) (ws from out : List ℕ) (i : ℕ) → Filled (shifted k (drop 1 ws)) from out i → i ≡ length ws - 1 → out ≡ over (shifted k (drop 1 ws)) from
 rest_end k ws from out i f e = fill_end _ from out i (e ∙ sym (length_rest k ws)) f
 
 module _ (n k : ℕ) (ws : List ℕ) (t : Taken n ws) where
-  pub taken_movable : k + n < 16777216 → Movable k ws
-  taken_movable h i l = omega (arith, offset_le n ws i l t.list.up)
-
   -- no run begins behind the vertices, moved or not
   pub below_top : (j top : ℕ) → j < length ws → top ≡ n + k → offset (get_or ws j 0) ≤ top
   below_top j top l e = omega (arith, offset_le n ws j l t.list.up)

@@ -10,8 +10,7 @@ use Rattle.runs.specs.Words.{offset, coordinate, pack}
 use Rattle.runs.specs.Colours.{end_at}
 use Rattle.runs.specs.Inside.Lists.{Taken}
 use Rattle.runs.specs.Reverse.{reverse_runs}
-use Rattle.runs.specs.Inside.Swap.{Swapped, Backed, FourFit, backed, put_four}
-use Rattle.runs.specs.declared.swap.Four.{Four}
+use Rattle.runs.specs.Inside.Swap.{Swapped, FourFit, backed, four_back, put_four}
 use Rattle.runs.proofs.Laws.Orders.{run_begins, end_le, offset_le}
 use Rattle.runs.proofs.Laws.Reverse.{length_reversed, reversed_at}
 
@@ -92,47 +91,47 @@ between_le n ws xs tail i j top t s h g e = omega (arith, offset_le n ws j (omeg
 -- ---- four runs of each end
 
 -- what stands where after four were put from place p on
-module _ (xs : List ℕ) (p : ℕ) (f : Four) where
+module _ (xs : List ℕ) (p : ℕ) (f : List ℕ) where
   pub length_four : length (put_four xs p f) ≡ length xs
   length_four =
-      length-set (set (set (set xs p f.four) (p + 1) f.three) (p + 2) f.two) (p + 3) f.one
-      ∙ length-set (set (set xs p f.four) (p + 1) f.three) (p + 2) f.two
-      ∙ length-set (set xs p f.four) (p + 1) f.three
-      ∙ length-set xs p f.four
+      length-set (set (set (set xs p (get_or f 0 0)) (p + 1) (get_or f 1 0)) (p + 2) (get_or f 2 0)) (p + 3) (get_or f 3 0)
+      ∙ length-set (set (set xs p (get_or f 0 0)) (p + 1) (get_or f 1 0)) (p + 2) (get_or f 2 0)
+      ∙ length-set (set xs p (get_or f 0 0)) (p + 1) (get_or f 1 0)
+      ∙ length-set xs p (get_or f 0 0)
 
   others : (j : ℕ) → (j ≡ p → ⊥) → (j ≡ p + 1 → ⊥) → (j ≡ p + 2 → ⊥) → (j ≡ p + 3 → ⊥) → get_or (put_four xs p f) j 0 ≡ get_or xs j 0
   others j a b c d =
-      get_or-set_other (set (set (set xs p f.four) (p + 1) f.three) (p + 2) f.two) (p + 3) j f.one 0 d
-      ∙ get_or-set_other (set (set xs p f.four) (p + 1) f.three) (p + 2) j f.two 0 c
-      ∙ get_or-set_other (set xs p f.four) (p + 1) j f.three 0 b
-      ∙ get_or-set_other xs p j f.four 0 a
+      get_or-set_other (set (set (set xs p (get_or f 0 0)) (p + 1) (get_or f 1 0)) (p + 2) (get_or f 2 0)) (p + 3) j (get_or f 3 0) 0 d
+      ∙ get_or-set_other (set (set xs p (get_or f 0 0)) (p + 1) (get_or f 1 0)) (p + 2) j (get_or f 2 0) 0 c
+      ∙ get_or-set_other (set xs p (get_or f 0 0)) (p + 1) j (get_or f 1 0) 0 b
+      ∙ get_or-set_other xs p j (get_or f 0 0) 0 a
 
   module _ (inside : p + 3 < length xs) where
-    put_0 : get_or (put_four xs p f) p 0 ≡ f.four
+    put_0 : get_or (put_four xs p f) p 0 ≡ get_or f 0 0
     put_0 =
-        get_or-set_other (set (set (set xs p f.four) (p + 1) f.three) (p + 2) f.two) (p + 3) p f.one 0 (λ q. omega arith)
-        ∙ get_or-set_other (set (set xs p f.four) (p + 1) f.three) (p + 2) p f.two 0 (λ q. omega arith)
-        ∙ get_or-set_other (set xs p f.four) (p + 1) p f.three 0 (λ q. omega arith)
-        ∙ get_or-set_same xs p f.four 0 (omega arith)
+        get_or-set_other (set (set (set xs p (get_or f 0 0)) (p + 1) (get_or f 1 0)) (p + 2) (get_or f 2 0)) (p + 3) p (get_or f 3 0) 0 (λ q. omega arith)
+        ∙ get_or-set_other (set (set xs p (get_or f 0 0)) (p + 1) (get_or f 1 0)) (p + 2) p (get_or f 2 0) 0 (λ q. omega arith)
+        ∙ get_or-set_other (set xs p (get_or f 0 0)) (p + 1) p (get_or f 1 0) 0 (λ q. omega arith)
+        ∙ get_or-set_same xs p (get_or f 0 0) 0 (omega arith)
 
-    put_1 : get_or (put_four xs p f) (p + 1) 0 ≡ f.three
+    put_1 : get_or (put_four xs p f) (p + 1) 0 ≡ get_or f 1 0
     put_1 =
-        get_or-set_other (set (set (set xs p f.four) (p + 1) f.three) (p + 2) f.two) (p + 3) (p + 1) f.one 0 (λ q. omega arith)
-        ∙ get_or-set_other (set (set xs p f.four) (p + 1) f.three) (p + 2) (p + 1) f.two 0 (λ q. omega arith)
-        ∙ get_or-set_same (set xs p f.four) (p + 1) f.three 0 (omega (arith, length-set xs p f.four))
+        get_or-set_other (set (set (set xs p (get_or f 0 0)) (p + 1) (get_or f 1 0)) (p + 2) (get_or f 2 0)) (p + 3) (p + 1) (get_or f 3 0) 0 (λ q. omega arith)
+        ∙ get_or-set_other (set (set xs p (get_or f 0 0)) (p + 1) (get_or f 1 0)) (p + 2) (p + 1) (get_or f 2 0) 0 (λ q. omega arith)
+        ∙ get_or-set_same (set xs p (get_or f 0 0)) (p + 1) (get_or f 1 0) 0 (omega (arith, length-set xs p (get_or f 0 0)))
 
-    put_2 : get_or (put_four xs p f) (p + 2) 0 ≡ f.two
+    put_2 : get_or (put_four xs p f) (p + 2) 0 ≡ get_or f 2 0
     put_2 =
-        get_or-set_other (set (set (set xs p f.four) (p + 1) f.three) (p + 2) f.two) (p + 3) (p + 2) f.one 0 (λ q. omega arith)
-        ∙ get_or-set_same (set (set xs p f.four) (p + 1) f.three) (p + 2) f.two 0 (omega (arith, length-set (set xs p f.four) (p + 1) f.three, length-set xs p f.four))
+        get_or-set_other (set (set (set xs p (get_or f 0 0)) (p + 1) (get_or f 1 0)) (p + 2) (get_or f 2 0)) (p + 3) (p + 2) (get_or f 3 0) 0 (λ q. omega arith)
+        ∙ get_or-set_same (set (set xs p (get_or f 0 0)) (p + 1) (get_or f 1 0)) (p + 2) (get_or f 2 0) 0 (omega (arith, length-set (set xs p (get_or f 0 0)) (p + 1) (get_or f 1 0), length-set xs p (get_or f 0 0)))
 
-    put_3 : get_or (put_four xs p f) (p + 3) 0 ≡ f.one
+    put_3 : get_or (put_four xs p f) (p + 3) 0 ≡ get_or f 3 0
     put_3 =
-        get_or-set_same (set (set (set xs p f.four) (p + 1) f.three) (p + 2) f.two) (p + 3) f.one 0
-        (omega (arith, length-set (set (set xs p f.four) (p + 1) f.three) (p + 2) f.two, length-set (set xs p f.four) (p + 1) f.three, length-set xs p f.four))
+        get_or-set_same (set (set (set xs p (get_or f 0 0)) (p + 1) (get_or f 1 0)) (p + 2) (get_or f 2 0)) (p + 3) (get_or f 3 0) 0
+        (omega (arith, length-set (set (set xs p (get_or f 0 0)) (p + 1) (get_or f 1 0)) (p + 2) (get_or f 2 0), length-set (set xs p (get_or f 0 0)) (p + 1) (get_or f 1 0), length-set xs p (get_or f 0 0)))
 
     -- so they are a list's runs there, where each is
-    four_at : (rs : List ℕ) → f.four ≡ get_or rs p 0 → f.three ≡ get_or rs (p + 1) 0 → f.two ≡ get_or rs (p + 2) 0 → f.one ≡ get_or rs (p + 3) 0
+    four_at : (rs : List ℕ) → get_or f 0 0 ≡ get_or rs p 0 → get_or f 1 0 ≡ get_or rs (p + 1) 0 → get_or f 2 0 ≡ get_or rs (p + 2) 0 → get_or f 3 0 ≡ get_or rs (p + 3) 0
         → (j : ℕ) → p ≤ j → j < p + 4 → get_or (put_four xs p f) j 0 ≡ get_or rs j 0
     four_at rs a b c d j h g = go (dec_lt j (p + 1)) (dec_lt j (p + 2)) (dec_lt j (p + 3))
       where
@@ -185,22 +184,28 @@ module _ (n : ℕ) (ws xs : List ℕ) (behind i : ℕ) (t : Taken n ws) (s : Swa
       let b : offset behind ≡ end_at n ws p = s.tails ∙ ap (end_at n ws) (sym e) in
       ap₂ (λ (o w : ℕ). pack (n - o) (coordinate w)) b a ∙ sym (reversed_at n ws i p (omega arith))
 
-  module _ (low high : Four) (l : Backed n xs i (get_or xs (i + 4) 0) low) (h : Backed n xs (length ws - 4 - i) behind high) where
+  module _ (low high : List ℕ) (l : low ≡ four_back n xs i (get_or xs (i + 4) 0)) (h : high ≡ four_back n xs (length ws - 4 - i) behind) where
+    low_at : (k : ℕ) → get_or low k 0 ≡ get_or (four_back n xs i (get_or xs (i + 4) 0)) k 0
+    low_at k = ap (λ (f : List ℕ). get_or f k 0) l
+
+    high_at : (k : ℕ) → get_or high k 0 ≡ get_or (four_back n xs (length ws - 4 - i) behind) k 0
+    high_at k = ap (λ (f : List ℕ). get_or f k 0) h
+
     front : (j : ℕ) → i ≤ j → j < i + 4 → get_or (put_four xs i high) j 0 ≡ get_or (reverse_runs n ws) j 0
     front =
         four_at xs i high (omega (arith, s.long)) (reverse_runs n ws)
-        (h.four ∙ by_tail (length ws - 4 - i + 3) (omega arith))
-        (h.three ∙ by_next (i + 1) (length ws - 4 - i + 2) (length ws - 4 - i + 3) (omega arith) (omega arith) (omega arith) (omega arith))
-        (h.two ∙ by_next (i + 2) (length ws - 4 - i + 1) (length ws - 4 - i + 2) (omega arith) (omega arith) (omega arith) (omega arith))
-        (h.one ∙ by_next (i + 3) (length ws - 4 - i) (length ws - 4 - i + 1) (omega arith) (omega arith) refl (omega arith))
+        (high_at 0 ∙ by_tail (length ws - 4 - i + 3) (omega arith))
+        (high_at 1 ∙ by_next (i + 1) (length ws - 4 - i + 2) (length ws - 4 - i + 3) (omega arith) (omega arith) (omega arith) (omega arith))
+        (high_at 2 ∙ by_next (i + 2) (length ws - 4 - i + 1) (length ws - 4 - i + 2) (omega arith) (omega arith) (omega arith) (omega arith))
+        (high_at 3 ∙ by_next (i + 3) (length ws - 4 - i) (length ws - 4 - i + 1) (omega arith) (omega arith) refl (omega arith))
 
     rear : (j : ℕ) → length ws - 4 - i ≤ j → j < length ws - 4 - i + 4 → get_or (put_four (put_four xs i high) (length ws - 4 - i) low) j 0 ≡ get_or (reverse_runs n ws) j 0
     rear =
         four_at (put_four xs i high) (length ws - 4 - i) low (omega (arith, s.long, length_four xs i high)) (reverse_runs n ws)
-        (l.four ∙ by_next (length ws - 4 - i) (i + 3) (i + 4) (omega arith) (omega arith) (omega arith) (omega arith))
-        (l.three ∙ by_next (length ws - 4 - i + 1) (i + 2) (i + 3) (omega arith) (omega arith) (omega arith) (omega arith))
-        (l.two ∙ by_next (length ws - 4 - i + 2) (i + 1) (i + 2) (omega arith) (omega arith) (omega arith) (omega arith))
-        (l.one ∙ by_next (length ws - 4 - i + 3) i (i + 1) (omega arith) (omega arith) refl (omega arith))
+        (low_at 0 ∙ by_next (length ws - 4 - i) (i + 3) (i + 4) (omega arith) (omega arith) (omega arith) (omega arith))
+        (low_at 1 ∙ by_next (length ws - 4 - i + 1) (i + 2) (i + 3) (omega arith) (omega arith) (omega arith) (omega arith))
+        (low_at 2 ∙ by_next (length ws - 4 - i + 2) (i + 1) (i + 2) (omega arith) (omega arith) (omega arith) (omega arith))
+        (low_at 3 ∙ by_next (length ws - 4 - i + 3) i (i + 1) (omega arith) (omega arith) refl (omega arith))
 
     -- elsewhere nothing has changed
     early : (j : ℕ) → j < length ws - 4 - i → get_or (put_four (put_four xs i high) (length ws - 4 - i) low) j 0 ≡ get_or (put_four xs i high) j 0

@@ -1,12 +1,7 @@
 -- A piece and an output that append admits.
-use Rattle.std.specs.Prelude.{ℕ, ◌+◌, ◌-◌, ◌≤◌, ◌<◌, List, length, get_or}
-use Rattle.runs.specs.Words.{offset}
+use Rattle.std.specs.Prelude.{ℕ, ◌+◌, ◌-◌, ◌≤◌, ◌<◌, List, length}
 use Rattle.runs.specs.Orders.{most_vertices}
 use Rattle.runs.specs.Inside.Lists.{Taken}
-
--- each run can be moved k vertices further on
-abbrev pub Movable : ℕ → List ℕ → Type 0
-Movable k ws = (i : ℕ) → i < length ws → offset (get_or ws i 0) + k < 16777216
 
 -- an output of `used` runs and `a` vertices, and a piece of b, that are as admitted
 pub record Admitted (out : List ℕ) (used a : ℕ) (piece : List ℕ) (b : ℕ) : Type 0 where

@@ -1,9 +1,8 @@
 -- A list that is reversed in its own place, from both ends to the middle.
-use Rattle.std.specs.Prelude.{ℕ, ◌+◌, ◌-◌, ◌≤◌, ◌<◌, ◌≡◌, List, length, get_or, set}
+use Rattle.std.specs.Prelude.{ℕ, ◌+◌, ◌-◌, ◌≤◌, ◌<◌, ◌≡◌, List, [], ◌∷◌, length, get_or, set}
 use Rattle.runs.specs.Words.{offset, coordinate, pack}
 use Rattle.runs.specs.Colours.{end_at}
 use Rattle.runs.specs.Reverse.{reverse_runs}
-use Rattle.runs.specs.declared.swap.Four.{Four}
 
 -- i runs at each end are as they will be, those between as they were; the run that comes to place i ended at `tail`
 pub record Swapped (n : ℕ) (ws xs : List ℕ) (tail i : ℕ) : Type 0 where
@@ -18,12 +17,10 @@ pub record Swapped (n : ℕ) (ws xs : List ℕ) (tail i : ℕ) : Type 0 where
 abbrev pub backed : ℕ → List ℕ → ℕ → ℕ → ℕ
 backed n ws p next = pack (n - offset next) (coordinate (get_or ws p 0))
 
--- the four runs from place p on, the last of which ended where `next` begins
-pub record Backed (n : ℕ) (ws : List ℕ) (p next : ℕ) (f : Four) : Type 0 where
-  pub one : f.one ≡ backed n ws p (get_or ws (p + 1) 0)
-  pub two : f.two ≡ backed n ws (p + 1) (get_or ws (p + 2) 0)
-  pub three : f.three ≡ backed n ws (p + 2) (get_or ws (p + 3) 0)
-  pub four : f.four ≡ backed n ws (p + 3) next
+-- the four runs from place p on, last first; the last ended where `next` begins
+abbrev pub four_back : ℕ → List ℕ → ℕ → ℕ → List ℕ
+four_back n ws p next =
+    backed n ws (p + 3) next ∷ backed n ws (p + 2) (get_or ws (p + 3) 0) ∷ backed n ws (p + 1) (get_or ws (p + 2) 0) ∷ backed n ws p (get_or ws (p + 1) 0) ∷ []
 
 -- that can be so
 pub record FourFit (n : ℕ) (ws : List ℕ) (p next : ℕ) : Type 0 where
@@ -34,6 +31,6 @@ pub record FourFit (n : ℕ) (ws : List ℕ) (p next : ℕ) : Type 0 where
   pub four : offset next ≤ n
   pub small : n < 16777216
 
--- the four, last first, from place p on
-abbrev pub put_four : List ℕ → ℕ → Four → List ℕ
-put_four ws p f = set (set (set (set ws p f.four) (p + 1) f.three) (p + 2) f.two) (p + 3) f.one
+-- four from place p on
+abbrev pub put_four : List ℕ → ℕ → List ℕ → List ℕ
+put_four ws p four = set (set (set (set ws p (get_or four 0 0)) (p + 1) (get_or four 1 0)) (p + 2) (get_or four 2 0)) (p + 3) (get_or four 3 0)

@@ -35,7 +35,7 @@ fill_appended-requires c =
     let n = c.args.piece.now.n in
     let r = c.args.piece.now.reversed in
     let le : c.skip_of-from.result ≤ 1 = subst (λ (x : ℕ). x ≤ 1) (sym c.skip_of-from.ensures) (skip_le (last_coord (take c.args.used out)) (oriented r n ps)) in
-    (omega (arith, c.requires.sum, c.requires.left, c.requires.right), le, c.requires.first, c.if-out-total.false)
+    (le, c.requires.first, c.if-out-total.false)
 
 pub returns : goal.returns
 returns c =

@@ -13,22 +13,22 @@ use Rattle.runs.proofs.append.fill_appended.Goals as goal
 
 pub returns-then-from-eq0 : goal.returns-then-from-eq0
 returns-then-from-eq0 c =
-    let ws = c.args.piece.now.runs.now in
+    let ws = c.args.piece.now.list.runs.now in
     let out = c.args.out.now in
-    let k = c.args.shift in
-    let os = oriented c.args.piece.now.reversed c.args.piece.now.n ws in
+    let k = c.args.piece.now.shift in
+    let os = oriented c.args.piece.now.list.reversed c.args.piece.now.list.n ws in
     let q : c.args.from ≡ 0 = c.if-from-eq0.true in
     let j : ℕ = length ws - c.args.from in
-    put_behind c.args.used out (shifted k os) _ j (length_shifted k os ∙ omega (arith, oriented_long c.args.piece.now.reversed c.args.piece.now.n ws)) c.fill.ensures
+    put_behind c.args.used out (shifted k os) _ j (length_shifted k os ∙ omega (arith, oriented_long c.args.piece.now.list.reversed c.args.piece.now.list.n ws)) c.fill.ensures
     ∙ ap (λ (f : ℕ). paste out c.args.used (shifted k (drop f os)) j) (sym q)
 
 pub returns-else-from-eq0 : goal.returns-else-from-eq0
 returns-else-from-eq0 c =
-    let ws = c.args.piece.now.runs.now in
+    let ws = c.args.piece.now.list.runs.now in
     let out = c.args.out.now in
-    let k = c.args.shift in
-    let os = oriented c.args.piece.now.reversed c.args.piece.now.n ws in
+    let k = c.args.piece.now.shift in
+    let os = oriented c.args.piece.now.list.reversed c.args.piece.now.list.n ws in
     let q : c.args.from ≡ 1 = omega (arith, c.if-from-eq0.false) in
     let j : ℕ = length ws - c.args.from in
-    put_behind c.args.used out (shifted k (drop 1 os)) _ j (length_rest k os ∙ omega (arith, oriented_long c.args.piece.now.reversed c.args.piece.now.n ws)) c.fill_rest.ensures
+    put_behind c.args.used out (shifted k (drop 1 os)) _ j (length_rest k os ∙ omega (arith, oriented_long c.args.piece.now.list.reversed c.args.piece.now.list.n ws)) c.fill_rest.ensures
     ∙ ap (λ (f : ℕ). paste out c.args.used (shifted k (drop f os)) j) (sym q)

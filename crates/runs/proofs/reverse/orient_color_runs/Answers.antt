@@ -17,9 +17,6 @@ pub returns-then-out-runs : goal.returns-then-out-runs
 returns-then-out-runs c =
     list_3 _ _ (oriented c.args.reversed c.args.n c.args.runs.now) _ c.in_ok-check_steady.ensures (omega (arith, oriented_long c.args.reversed c.args.n c.args.runs.now))
 
-pub fill-requires : goal.fill-requires
-fill-requires c = let t = c.in_ok-check_steady.ensures in (omega (arith, t.small), c.if-out-runs.false)
-
 pub returns : goal.returns
 returns c =
     let os = oriented c.args.reversed c.args.n c.args.runs.now in
