@@ -158,15 +158,6 @@ impl Body<'_> {
     }
 }
 
-// Whether fewer than eight bits are left from `at` on, all zero.
-pub(crate) fn is_padding(payload: &[u8], at: usize) -> bool
-    requires { (length payload.now < 2 ^ 60) × (at ≤ 8 * length payload.now) }
-    ensures { result ≡ (ltb (length (drop at (bits_of payload.now))) 8 && padding (drop at (bits_of payload.now))) }
-{
-    let left = payload.len() * 8 - at;
-    left < 8 && crate::bits::bits_at(payload, at, left) == 0
-}
-
 // What a payload holds, where it is that of a set. The ids coded as distances are kept in `room`, if they fit.
 pub(crate) fn check_set<'a>(
     colors: Colors,
@@ -183,7 +174,7 @@ pub(crate) fn check_set<'a>(
         at: next,
     };
     let behind = body.check(room)?;
-    is_padding(source.bytes, behind).then_some(body)
+    source.is_padding(behind).then_some(body)
 }
 
 // The place behind the bits of a set's ids, where they stand at bit place `at`.
@@ -212,8 +203,9 @@ pub(crate) fn same_set(set: ColorSet, payload: &[u8]) -> bool
     if value as usize != set.ids.len() {
         return false;
     }
-    let Some(behind) = same_body(set, Source::new(payload), next) else {
+    let source = Source::new(payload);
+    let Some(behind) = same_body(set, source, next) else {
         return false;
     };
-    is_padding(payload, behind)
+    source.is_padding(behind)
 }

@@ -1,6 +1,8 @@
 // The bytes of a payload with the last eight of them as a number, and the reader of codes over both.
-ghost use Rattle.std.specs.Prelude.{◌≡◌, ◌+◌, ◌-◌, ◌/◌, ◌<◌, ◌^◌, length};
+ghost use Rattle.std.specs.Prelude.{◌≡◌, ◌&&◌, ltb, ◌+◌, ◌-◌, ◌*◌, ◌/◌, ◌<◌, ◌≤◌, ◌^◌, length, drop};
+ghost use Rattle.codec.specs.Bits.{bits_of};
 ghost use Rattle.codec.specs.Codes.{read_delta};
+ghost use Rattle.codec.specs.Sets.{padding};
 ghost use Rattle.codec.specs.Inside.Places.{ReadCodeAt};
 ghost use Rattle.codec.specs.Inside.Windows.{Window};
 
@@ -68,5 +70,14 @@ impl<'a> Source<'a> {
             value,
             next: at + count,
         })
+    }
+
+    // Whether fewer than eight bits are left from `at` on, all zero.
+    pub(crate) fn is_padding(self, at: usize) -> bool
+        requires { at ≤ 8 * length self.bytes.now }
+        ensures { result ≡ (ltb (length (drop at (bits_of self.entry.bytes.now))) 8 && padding (drop at (bits_of self.entry.bytes.now))) }
+    {
+        let left = self.bytes.len() * 8 - at;
+        left < 8 && crate::bits::bits_at(self.bytes, at, left) == 0
     }
 }

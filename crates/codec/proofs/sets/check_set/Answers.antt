@@ -1,6 +1,5 @@
 -- `sets::check_set` meets its contract.
 use Rattle.codec.proofs.Laws.Decoding.{no_length, no_body, payload_tested}
-use borrow.Author.Rules.{rules}
 use Rattle.codec.proofs.sets.check_set.Goals as goal
 
 pub returns-in_err-value : goal.returns-in_err-value
@@ -12,7 +11,7 @@ returns-in_err-behind c =
     rw c.from_residual-in_err-behind.ensures (no_body c.args.colors.n c.args.source.bytes.now _ _ c.in_ok-value.ensures.0 c.in_err-behind.ensures.0, tt)
 
 pub is_padding-requires : goal.is_padding-requires
-is_padding-requires c = (search rules, c.in_ok-behind.ensures.0.1)
+is_padding-requires c = c.in_ok-behind.ensures.0.1
 
 pub returns : goal.returns
 returns c =

@@ -33,21 +33,21 @@ returns-then-value-set c =
 
 pub same_body-requires : goal.same_body-requires
 same_body-requires c =
-    rw c.new.ensures c.in-Some.ensures.1
+    rw c.new-source.ensures c.in-Some.ensures.1
 
 pub returns-in_default-same_body : goal.returns-in_default-same_body
 returns-in_default-same_body c =
     let a = c.args in
     sym (gives_other (decode_set a.set.n a.payload.now) a.set.ids.now (λ e.
     let s = set_begins a.set.n a.set.ids.now a.payload.now e in
-    (rw c.new.ensures at c.in_default-same_body.ensures) s.0 (same_rest c.in-Some.ensures.0 s.1)))
+    (rw c.new-source.ensures at c.in_default-same_body.ensures) s.0 (same_rest c.in-Some.ensures.0 s.1)))
 
 pub is_padding-requires : goal.is_padding-requires
-is_padding-requires c = (c.requires, (rw c.new.ensures at c.in-Some-same_body.ensures).1)
+is_padding-requires c = c.in-Some-same_body.ensures.1
 
 pub returns : goal.returns
 returns c =
     let a = c.args in
     let v : c.in-Some.field-0.value ≡ length a.set.ids.now = omega arith in
     let at = c.in-Some.field-0.next in
-    c.is_padding.ensures ∙ sym (gives_same a.set.n a.set.ids.now a.payload.now at c.in-Some-same_body.behind a.set.within (c.in-Some.ensures.0 ∙ ap (λ (n : ℕ). got n (drop at (bits_of a.payload.now))) v) (rw c.new.ensures at c.in-Some-same_body.ensures).0)
+    (rw c.new-source.ensures at c.is_padding.ensures) ∙ sym (gives_same a.set.n a.set.ids.now a.payload.now at c.in-Some-same_body.behind a.set.within (c.in-Some.ensures.0 ∙ ap (λ (n : ℕ). got n (drop at (bits_of a.payload.now))) v) (rw c.new-source.ensures at c.in-Some-same_body.ensures).0)
