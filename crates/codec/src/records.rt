@@ -1,5 +1,5 @@
 // Records: a payload's length as a prefix, then the payload.
-// `as` below: no `From` leads between u32 and usize, and no number is cut by it, which is proved.
+// `as` below: no `From` leads between u32 and usize, or from usize to u8, and no number is cut by it, which is proved.
 ghost use Rattle.std.specs.Prelude.{◌≡◌, ◌&&◌, ltb, leb, ◌+◌, ◌≤◌, ◌<◌, ◌^◌, length, drop};
 ghost use Rattle.base.specs.Answers.{of_written, of_given};
 ghost use Rattle.base.specs.Parts.{over};
