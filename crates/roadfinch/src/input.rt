@@ -51,9 +51,9 @@ impl Input {
         end.is_some()
     }
 
-    // The next line, or whether there is none. Where no input is left the answers go out before more is read, so that whoever waits for one has it.
-    // Nothing says that the input ends, and a loop without an end would need the word Wait: the turns are counted, up to a
-    // number that no run reaches.
+    // The next line into one that the caller holds, since nothing is allocated; answers whether there is one. Where no input is left the answers go
+    // out before more is read, so that whoever waits for one has it. std says nothing of how much of standard input is left, so no measure falls from
+    // turn to turn, and a loop without an end would need the word Wait: the turns are counted, up to a number that no run reaches.
     pub(crate) fn next_line(&mut self, line: &mut Line, out: &mut Output) -> io::Result<bool> {
         line.number = line.number.wrapping_add(1);
         line.used = 0;

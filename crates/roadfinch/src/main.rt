@@ -23,7 +23,7 @@ fn answer(line: &Line, desk: &mut Desk) -> Result<Option<Reply>, Trouble> {
     desk.obey(line.text()?)
 }
 
-// Nothing says that the input ends: the turns are counted, as in `next_line`.
+// A line at a time. Nothing says that the input ends: the turns are counted, as in `next_line`.
 fn run(input: &mut Input, line: &mut Line, desk: &mut Desk, out: &mut Output) -> io::Result<()> {
     for _ in 0..u64::MAX {
         if !input.next_line(line, out)? {

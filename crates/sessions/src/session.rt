@@ -41,7 +41,8 @@ pub(crate) struct Session {
     pub pieces: Vec<u64>,
 }
 
-// What the words of a line say. A line that isn't there, can't be read, or says more than `most` has nothing.
+// What the words of a line say. A line that isn't there, can't be read, or says more than `most` has nothing. The libraries allocate nothing, so
+// `worked` has one of its own.
 fn list<T>(alloc: Global, line: Option<&&[u8]>, most: usize) -> Result<Vec<T>, AllocError>
 where
     T: Word + From<u8>,

@@ -32,8 +32,8 @@ pub fn front<T>(xs: &[T], count: usize) -> &[T]
     &xs[..count.min(xs.len())]
 }
 
-// The same, lent to be written. No clause says how the list goes on behind what is written there: the check shows that of a call's whole result
-// alone, and not of a part.
+// The same, lent to be written. No clause says what the list is afterwards: the check proves one only where the whole result of a call is handed
+// on, and this is a part of a slice.
 pub fn front_mut<T>(xs: &mut [T], count: usize) -> &mut [T]
     ensures { result.now ≡ take count xs.old }
 {

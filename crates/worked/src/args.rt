@@ -67,7 +67,8 @@ pub(crate) fn narrow(value: u64) -> u32 {
     (value & 0xffff_ffff) as u32
 }
 
-// The ids or runs up to the end of the step; none where one can't be read, or there are too many.
+// The ids or runs up to the end of the step; none where one can't be read, or there are too many. The libraries allocate nothing, so `sessions` has
+// one of its own.
 pub(crate) fn list<T>(alloc: Global, words: Words<'_>) -> Result<Vec<T>, AllocError>
 where
     T: Word + From<u8>,
