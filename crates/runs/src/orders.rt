@@ -4,7 +4,7 @@ ghost use Rattle.runs.specs.Colours.{end_at, last_coord};
 ghost use Rattle.runs.specs.Orders.{steady, sharp};
 ghost use Rattle.runs.specs.Inside.Lists.{Taken};
 ghost use Rattle.runs.specs.Inside.Refusals.{IsTurnedDown};
-ghost use Rattle.runs.specs.Inside.Falls.{Testable, fall, falls, of_two, of_four, of_eight, spaced};
+ghost use Rattle.runs.specs.Inside.Falls.{Testable, fall, falls, of_eight, spaced};
 
 use crate::listed::Runs;
 use crate::words;
@@ -30,29 +30,19 @@ impl<R: Runs> Spacing<R> {
         (begin + (16777215 + self.step) - next) / 16777216
     }
 
-    // At how many of place p and the place `apart` behind it. This function, `falls_of_four` and `falls_of_eight` stay three: so many places
-    // are read side by side.
-    fn falls_of_two(&self, p: usize, apart: usize) -> u64
-        requires { apart + p + 1 < length (R.list self.now.runs) }
-        ensures { (result ≡ of_two self.now.step (R.list self.now.runs) apart p) × (result ≤ 2) }
-    {
-        self.fall_at(p) + self.fall_at(apart + p)
-    }
-
-    // At how many of four places, each `apart` behind the one before.
-    fn falls_of_four(&self, p: usize, apart: usize) -> u64
-        requires { 3 * apart + p + 1 < length (R.list self.now.runs) }
-        ensures { (result ≡ of_four self.now.step (R.list self.now.runs) apart p) × (result ≤ 4) }
-    {
-        self.falls_of_two(p, apart) + self.falls_of_two(2 * apart + p, apart)
-    }
-
-    // Likewise of eight.
+    // At how many of eight places, each `apart` behind the one before. Eight are written out, so that they are read side by side.
     fn falls_of_eight(&self, p: usize, apart: usize) -> u64
         requires { 7 * apart + p + 1 < length (R.list self.now.runs) }
         ensures { (result ≡ of_eight self.now.step (R.list self.now.runs) apart p) × (result ≤ 8) }
     {
-        self.falls_of_four(p, apart) + self.falls_of_four(4 * apart + p, apart)
+        self.fall_at(p)
+            + self.fall_at(apart + p)
+            + self.fall_at(2 * apart + p)
+            + self.fall_at(3 * apart + p)
+            + self.fall_at(4 * apart + p)
+            + self.fall_at(5 * apart + p)
+            + self.fall_at(6 * apart + p)
+            + self.fall_at(7 * apart + p)
     }
 
     // At how many of the first 8 * `eighth` places. Eight parts are read side by side: so a list in far memory is read sooner.

@@ -105,11 +105,11 @@ module _ (step : ℕ) (ws : List ℕ) where
       let a0 : falls step ws 0 (i + 1) ≡ falls step ws 0 i + fall step ws i = falls_more 0 i i (omega arith) in
       let a1 : falls step ws q (i + 1) ≡ falls step ws q i + fall step ws (q + i) = falls_more q i (q + i) refl in
       let a2 : falls step ws (2 * q) (i + 1) ≡ falls step ws (2 * q) i + fall step ws (2 * q + i) = falls_more (2 * q) i (2 * q + i) refl in
-      let a3 : falls step ws (3 * q) (i + 1) ≡ falls step ws (3 * q) i + fall step ws (q + (2 * q + i)) = falls_more (3 * q) i (q + (2 * q + i)) (omega arith) in
+      let a3 : falls step ws (3 * q) (i + 1) ≡ falls step ws (3 * q) i + fall step ws (3 * q + i) = falls_more (3 * q) i (3 * q + i) refl in
       let a4 : falls step ws (4 * q) (i + 1) ≡ falls step ws (4 * q) i + fall step ws (4 * q + i) = falls_more (4 * q) i (4 * q + i) refl in
-      let a5 : falls step ws (5 * q) (i + 1) ≡ falls step ws (5 * q) i + fall step ws (q + (4 * q + i)) = falls_more (5 * q) i (q + (4 * q + i)) (omega arith) in
-      let a6 : falls step ws (6 * q) (i + 1) ≡ falls step ws (6 * q) i + fall step ws (2 * q + (4 * q + i)) = falls_more (6 * q) i (2 * q + (4 * q + i)) (omega arith) in
-      let a7 : falls step ws (7 * q) (i + 1) ≡ falls step ws (7 * q) i + fall step ws (q + (2 * q + (4 * q + i))) = falls_more (7 * q) i (q + (2 * q + (4 * q + i))) (omega arith) in
+      let a5 : falls step ws (5 * q) (i + 1) ≡ falls step ws (5 * q) i + fall step ws (5 * q + i) = falls_more (5 * q) i (5 * q + i) refl in
+      let a6 : falls step ws (6 * q) (i + 1) ≡ falls step ws (6 * q) i + fall step ws (6 * q + i) = falls_more (6 * q) i (6 * q + i) refl in
+      let a7 : falls step ws (7 * q) (i + 1) ≡ falls step ws (7 * q) i + fall step ws (7 * q + i) = falls_more (7 * q) i (7 * q + i) refl in
       omega arith
 
   in_eighths_sum : (q k : ℕ) → sum (map (of_eight step ws q) (range_with_len 0 k)) ≡ in_eighths q k

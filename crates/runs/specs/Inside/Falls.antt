@@ -8,15 +8,11 @@ use Rattle.runs.specs.Colours.{last_run}
 unfoldable pub fall : ℕ → List ℕ → ℕ → ℕ
 fall step ws p = 1 when ltb (offset (get_or ws (p + 1) 0)) (offset (get_or ws p 0) + step) else 0
 
--- at how many of two, four and eight places from p on, each `apart` behind the one before
-abbrev pub of_two : ℕ → List ℕ → ℕ → ℕ → ℕ
-of_two step ws apart p = fall step ws p + fall step ws (apart + p)
-
-abbrev pub of_four : ℕ → List ℕ → ℕ → ℕ → ℕ
-of_four step ws apart p = of_two step ws apart p + of_two step ws apart (2 * apart + p)
-
+-- at how many of eight places from p on, each `apart` behind the one before
 abbrev pub of_eight : ℕ → List ℕ → ℕ → ℕ → ℕ
-of_eight step ws apart p = of_four step ws apart p + of_four step ws apart (4 * apart + p)
+of_eight step ws apart p =
+    fall step ws p + fall step ws (apart + p) + fall step ws (2 * apart + p) + fall step ws (3 * apart + p)
+    + fall step ws (4 * apart + p) + fall step ws (5 * apart + p) + fall step ws (6 * apart + p) + fall step ws (7 * apart + p)
 
 -- at how many of the k places from p on
 unfoldable pub falls : ℕ → List ℕ → ℕ → ℕ → ℕ
