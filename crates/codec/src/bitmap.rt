@@ -86,7 +86,7 @@ pub(crate) fn same_map(bytes: &[u8], at: usize, set: ColorSet) -> Option<usize>
 // The ids that the low `width` bits of `word` tell, from `base` on, to place `k` of `out` on: the place
 // behind them.
 fn fill_chunk(word: u64, width: u32, base: u32, out: &mut [u32], k: usize) -> usize
-    requires width_bound { (width ≤ 32) × (word < 2 ^ width) × (base + width ≤ 2 ^ 20) }
+    requires width_bound { (width ≤ 32) × (word < 2 ^ width) × (base + width < 2 ^ 32) }
     requires word_in_bounds { k + length (ids_of base (low_bits width word)) ≤ length out.old }
     ensures { (result ≡ k + length (ids_of base (low_bits width word))) × (out.new ≡ over (take k out.old ++ ids_of base (low_bits width word)) out.old) }
 {
