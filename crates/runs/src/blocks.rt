@@ -43,7 +43,7 @@ impl<'a> Blocks<'a> {
         requires { self.now.count ≤ length out.old }
         ensures { out.new ≡ over (runs_of self.now) out.old }
     {
-        // By index: no clause says what a slice holds after an adapter of `iter_mut`, as `enumerate`.
+        // By index, which `run_at` needs too: `enumerate` over `iter_mut` is no plainer.
         for i in 0..self.count {
             out[i] = self.run_at(i);
         }

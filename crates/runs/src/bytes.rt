@@ -32,7 +32,7 @@ fn fill_bytes<I: Iterator<Item = u64>>(runs: I, out: &mut [u8])
     requires { YieldsUpTo I.can_next I.next_gives I.remaining runs (length out.old / 8) }
     ensures { (all : List ℕ) → YieldsAll I.next_gives runs all → out.new ≡ over (flat (le_bytes 8) all) out.old }
 {
-    // By index: no clause says what a slice holds after `chunks_exact_mut` or an adapter of `iter_mut`.
+    // `out` by index: no clause says what a slice holds after its `chunks_exact_mut`.
     for (i, run) in runs.enumerate() {
         put_word(out, 8 * i, run);
     }

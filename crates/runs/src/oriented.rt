@@ -88,7 +88,7 @@ impl Shifted<'_> {
         ensures { out.new ≡ over (shifted self.now.shift (drop 1 self.now.list.runs.now)) out.old }
     {
         let shift = u64::from(self.shift);
-        // `out` by index: no clause says what a slice holds after an adapter of `iter_mut`, as `zip`.
+        // `out` by index: no clause says what a slice holds after a `zip` over its `iter_mut`.
         for (i, run) in self.list.runs[1..].iter().enumerate() {
             out[i] = *run + shift;
         }
@@ -102,7 +102,7 @@ impl Shifted<'_> {
         let runs = self.list.runs;
         let m = runs.len();
         let top = u64::from(self.list.n + self.shift);
-        // By index, likewise; and each run is read with the one behind it, from the last on.
+        // By index, which both reads need too: `enumerate` over `iter_mut` is no plainer.
         for i in 0..m - 1 {
             out[i] = words::backed(runs[m - 2 - i], runs[m - 1 - i], top);
         }

@@ -35,7 +35,7 @@ fn fill<I: Iterator<Item = u64>>(runs: I, out: &mut [u64])
     requires { YieldsUpTo I.can_next I.next_gives I.remaining runs (length out.old) }
     ensures { (all : List ℕ) → YieldsAll I.next_gives runs all → out.new ≡ over all out.old }
 {
-    // By index: no clause says what a slice holds after an adapter of `iter_mut`, as `zip`.
+    // `out` by index: no clause says what a slice holds after a `zip` over its `iter_mut`.
     for (i, run) in runs.enumerate() {
         out[i] = run;
     }
