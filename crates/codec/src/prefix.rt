@@ -34,6 +34,7 @@ pub fn read_varint_len(bytes: &[u8]) -> Result<Prefix, Refusal>
     ensures { of_prefix result ≡ prefix_in (length bytes.now) (read_prefix bytes.now) }
 {
     let mut value: u64 = 0;
+    // By place, so that a byte that is missing is told apart from a sixth group.
     for i in 0..5 {
         let byte = *bytes.get(i).ok_or(Refusal::Cut)?;
         let group = u64::from(byte);
