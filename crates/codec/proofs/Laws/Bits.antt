@@ -2,7 +2,7 @@
 use Prim.Native.Nat.{ℕ, zero, suc, ◌+◌, ◌-◌, ◌*◌, ◌/◌, ◌%◌, ◌^◌, ◌≤◌, ◌<◌}
 use mathlib.Core.Path.{◌≡◌, refl, sym, ap, ap₂, ◌∙◌, subst}
 use mathlib.Core.Bool.{Bool, true, false}
-use mathlib.Core.List.{List, [], ◌∷◌, ◌++◌, append_assoc, append-nil}
+use mathlib.Core.List.{List, [], ◌∷◌, ◌++◌, append_assoc}
 use native.Mathlib.Nat.{div-one, pow-suc, div-div-eq-div-mul, add_comm, add-mod_right, mod-eq_of_lt, div-eq_of_lt, lt_of_not-le, not-le_of_lt, lt_of_lt_of_le}
 use native.Mathlib.Decide.{dec_le}
 use native.Mathlib.Omega.{arith}
@@ -22,10 +22,6 @@ pub bits_append : (xs ys : List ℕ) → bits_of (xs ++ ys) ≡ bits_of xs ++ bi
 unfolding bits_of
 bits_append [] ys = refl
 bits_append (x ∷ xs) ys = ap (λ (l : List Bool). low_bits 8 x ++ l) (bits_append xs ys) ∙ sym (append_assoc (low_bits 8 x) (bits_of xs) (bits_of ys))
-
-bits_byte : (x : ℕ) → bits_of (x ∷ []) ≡ low_bits 8 x
-unfolding bits_of
-bits_byte x = append-nil (low_bits 8 x)
 
 -- a short number and a shifted one, as the machine adds them
 pub joined_lt : (p c a v : ℕ) → a < 2 ^ p → v < 2 ^ c → a + v * 2 ^ p < 2 ^ (p + c)
