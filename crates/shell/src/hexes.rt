@@ -4,9 +4,9 @@ ghost use Rattle.shell.specs.Hexes.{unhex_at};
 
 use crate::reasons::Fault;
 
-// The bytes that a text says, to the front of `out`; answers how many they are. The place in the output is counted beside the loop, which stops
-// for two reasons: after an adapter of `iter_mut` the library says nothing of the slice. `as`: two digits fit a byte, for which `try_from` would
-// add a case that can't come.
+// The bytes that a text says, to the front of `out`; answers how many they are. The place in the output is counted by hand, since the loop ends
+// with the text or with the output: an adapter of `iter_mut` would count it, but after one the library says nothing of the slice. `as`: two digits
+// fit a byte, and `try_from` would add a case that can't come.
 pub fn unhex(text: &[u8], out: &mut [u8]) -> Result<usize, Fault>
     ensures { (result, out.new) ≡ unhex_at text.now 0 out.old }
 {

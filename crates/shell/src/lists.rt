@@ -58,8 +58,8 @@ pub fn item_at<T: Word>(line: &[u8], at: usize) -> Result<Option<Item<T>>, Fault
     }))
 }
 
-// What the words up to the end of the line say, to the front of `out`; answers how many there are. The place in the output is counted beside the
-// loop, which stops for two reasons: after an adapter of `iter_mut` the library says nothing of the slice.
+// What the words up to the end of the line say, to the front of `out`; answers how many there are. The place in the output is counted by hand,
+// since the loop ends with the line or with the output: an adapter of `iter_mut` would count it, but after one the library says nothing of the slice.
 pub fn list_at<T: Word>(line: &[u8], from: usize, out: &mut [T]) -> Result<usize, Fault>
     ensures { (result, out.new) ≡ list_from T.said (length line.now) line.now from 0 out.old }
 {

@@ -6,7 +6,7 @@ ghost use Rattle.shell.specs.Texts.{put_at, Printed};
 use crate::digits::{decimal, glyph};
 
 // The text from `at` on, as much of it as there is space for; answers where it ends. A loop that stops at the buffer's end, since
-// `copy_from_slice` would first need the two lengths cut to fit, and is no shorter; its place is counted beside it, as in `unhex`.
+// `copy_from_slice` would first need the two lengths cut to fit, and is no shorter; the place is counted by hand, as in `unhex`.
 pub fn put(text: &[u8], at: usize, out: &mut [u8]) -> usize
     ensures { (result, out.new) ≡ put_at text.now at out.old }
 {
