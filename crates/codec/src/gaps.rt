@@ -210,16 +210,6 @@ impl Body<'_> {
     }
 }
 
-// Ids coded as distances that were read once, and are all there. They stand in the front of `room`, where it has
-// space for them.
-#[derive(Clone, Copy)]
-pub(crate) struct Checked<'a> {
-    pub(crate) body: Body<'a>,
-    pub(crate) room: &'a [u32],
-    ghost accepted: { is_given (gaps_in body) ≡ true },
-    ghost kept: { Kept (gaps_in body) body.count room.now },
-}
-
 // The numbers from `from` up to `to` to place `k` of `out` on: the place behind them. By index, since a `zip` of
 // the places of `out` with the numbers promises nothing of `out` afterwards.
 fn fill_numbers(from: u32, to: u32, out: &mut [u32], k: usize) -> usize
@@ -244,6 +234,16 @@ fn fill_outside(others: &[u32], top: u32, out: &mut [u32])
         from = id + 1;
     }
     fill_numbers(from, top, out, k);
+}
+
+// Ids coded as distances that were read once, and are all there. They stand in the front of `room`, where it has
+// space for them.
+#[derive(Clone, Copy)]
+pub(crate) struct Checked<'a> {
+    pub(crate) body: Body<'a>,
+    pub(crate) room: &'a [u32],
+    ghost accepted: { is_given (gaps_in body) ≡ true },
+    ghost kept: { Kept (gaps_in body) body.count room.now },
 }
 
 impl Checked<'_> {
