@@ -3,6 +3,6 @@ pub mod Places
 pub mod Lent
 pub mod Fits
 pub mod Gates
-pub mod Meeting
+pub mod Joining
 pub mod Closing
 pub mod Showing

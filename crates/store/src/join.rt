@@ -4,7 +4,7 @@ ghost use Rattle.std.specs.Prelude.{◌≡◌, ◌<◌, length};
 ghost use Rattle.store.specs.State.{bufs, of_answer};
 ghost use Rattle.store.specs.Join.{all_named, same_join, open_count, open_at, open_space, join_test, join_filed, join_cell, join_step};
 ghost use Rattle.store.specs.Inside.Fits.{JoinFits, JoinReady, OpenReady, open_after};
-ghost use Rattle.store.specs.Inside.Meeting.{meet_test};
+ghost use Rattle.store.specs.Inside.Joining.{meet_test};
 
 use crate::lengths::Lengths;
 use crate::opened::OpenRuns;

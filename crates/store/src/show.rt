@@ -61,10 +61,11 @@ impl<'a> Closed<'a> {
     fn color_from(self, at: usize, n: u64, vertex: u32) -> Option<u64>
         ensures { option_of result ≡ coord_from self.entry.shared self.entry.runs.now at n vertex }
     {
-        if 16777215 < n || self.shared.runs.used < at {
+        if 16777215 < n {
             return None;
         }
-        runs::bytes::sharp_color_at(&self.runs[at..], n as u32, vertex).ok()
+        let filed = self.runs.get(at..)?;
+        runs::bytes::sharp_color_at(filed, n as u32, vertex).ok()
     }
 
     // Whether there is no such closed unitig, or no such vertex of it.
@@ -72,7 +73,8 @@ impl<'a> Closed<'a> {
     fn no_place(self, unitig: u32, vertex: u32) -> bool
         ensures { result ≡ no_place self.entry.shared self.entry.table.now unitig vertex }
     {
-        self.shared.unitigs <= unitig || self.table[2 * unitig as usize + 1] <= u64::from(vertex)
+        let count = self.table.get(2 * unitig as usize + 1);
+        count.is_none_or(|n| *n <= u64::from(vertex))
     }
 
     // The coordinate of a vertex of a unitig that there is.
@@ -80,10 +82,9 @@ impl<'a> Closed<'a> {
         requires { unitig < self.shared.unitigs }
         ensures { option_of result ≡ vertex_coord self.entry.shared self.entry.runs.now self.entry.table.now unitig vertex }
     {
-        let entry = 2 * unitig as usize;
-        let at = self.table[entry] as usize;
-        let n = self.table[entry + 1];
-        self.color_from(at, n, vertex)
+        let rest = &self.table[2 * unitig as usize..];
+        let [at, n] = *rest.first_chunk::<2>().unwrap();
+        self.color_from(at as usize, n, vertex)
     }
 }
 
