@@ -26,11 +26,9 @@ pub(crate) fn map_chunk(set: ColorSet, i: usize, base: u32, width: u32) -> MapCh
     ensures { MapOf set.entry.n set.entry.ids.now i base width result }
 {
     let mut word: u64 = 0;
-    // By place: over `set.ids[i..].iter().enumerate()` bitmaps are written 9% slower, and with the places by `zip` 50%.
-    for k in i..set.ids.len() {
-        let id = set.ids[k];
+    for (k, &id) in set.ids[i..].iter().enumerate() {
         if base + width <= id {
-            return MapChunk { word, next: k };
+            return MapChunk { word, next: i + k };
         }
         word += 1u64 << (id - base);
     }
