@@ -58,24 +58,21 @@ pub fn item_at<T: Word>(line: &[u8], at: usize) -> Result<Option<Item<T>>, Fault
     }))
 }
 
-// What the words up to the end of the line say, to the front of `out`; answers how many there are. The place in the output is counted by hand,
-// since the loop ends with the line or with the output: an adapter of `iter_mut` would count it, but after one the library says nothing of the slice.
+// What the words up to the end of the line say, to the front of `out`; answers how many there are. The turns are counted by the line's
+// bytes, of which each word takes one at least.
 pub fn list_at<T: Word>(line: &[u8], from: usize, out: &mut [T]) -> Result<usize, Fault>
     ensures { (result, out.new) ≡ list_from T.said (length line.now) line.now from 0 out.old }
 {
     let mut at = from;
-    let mut k = 0;
-    // The turns are counted by the line's bytes, of which each word takes one at least.
-    for _ in line {
+    for (k, _) in line.iter().enumerate() {
         let Some(item) = item_at(line, at)? else {
-            break;
+            return Ok(k);
         };
         if out.len() <= k {
             return Err(Fault::Many);
         }
         out[k] = item.value;
-        k += 1;
         at = item.next;
     }
-    Ok(k)
+    Ok(line.len())
 }

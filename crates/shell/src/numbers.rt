@@ -36,9 +36,7 @@ pub(crate) fn number_to(text: &[u8], most: u64) -> Result<u64, NumberError>
     }
     let mut value: u64 = 0;
     for b in text {
-        let Some(digit) = char::from(*b).to_digit(10) else {
-            return Err(NumberError::Bad);
-        };
+        let digit = char::from(*b).to_digit(10).ok_or(NumberError::Bad)?;
         value = value * 10 + u64::from(digit);
         if most < value {
             return Err(NumberError::Large);

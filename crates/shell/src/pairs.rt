@@ -15,9 +15,7 @@ fn colon_in(text: &[u8]) -> Option<usize>
 pub fn pair(text: &[u8]) -> Result<u64, NumberError>
     ensures { result ≡ pair_of text.now }
 {
-    let Some(colon) = colon_in(text) else {
-        return Err(NumberError::Bad);
-    };
+    let colon = colon_in(text).ok_or(NumberError::Bad)?;
     let offset = number_to(&text[..colon], 0xff_ffff)?;
     let coordinate = number_to(&text[colon + 1..], 0xff_ffff_ffff)?;
     Ok(offset + 0x100_0000 * coordinate)

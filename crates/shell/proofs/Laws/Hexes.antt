@@ -1,8 +1,7 @@
 -- Hexadecimal digits: one turn of the loop over the pairs.
-use Rattle.std.proofs.Common.{◌≡◌, ℕ, ◌+◌, ◌-◌, ◌*◌, ◌≤◌, ◌<◌, List, [], ◌∷◌, length, take, drop, get_or, set, arith, refl, sym, ap, ◌∙◌}
+use Rattle.std.proofs.Common.{◌≡◌, ℕ, ◌+◌, ◌-◌, ◌*◌, ◌≤◌, ◌<◌, List, [], ◌∷◌, ◌++◌, length, get_or, set, arith, refl, sym, ap, ◌∙◌}
 use Rattle.std.specs.Prelude.{Option, Some, None, Result, Ok, Err, true, false, ◌==◌}
-use borrow.Author.Tests.{le-leb, lt-leb, eqb-true}
-use Rattle.shell.proofs.Laws.Positions.{rest_whole}
+use borrow.Author.Tests.{le-leb, lt-leb}
 use Rattle.base.proofs.Tests.{when_yes, when_no}
 use Rattle.shell.specs.declared.reasons.Fault.{Fault}
 use Rattle.shell.specs.declared.reasons.Fault.TheVariants.{Hex, Many}
@@ -29,19 +28,39 @@ unfolding digit_of
 digit_is b x None e h = grind (arith, nat_tests)
 digit_is b x (Some d) e h = grind (arith, nat_tests)
 
-two : (xs : List ℕ) (k : ℕ) (out : List ℕ) → 2 ≤ length xs → unhex_at xs k out ≡ byte_into (digit_of (get_or xs 0 0)) (digit_of (get_or xs 1 0)) k out (unhex_at (drop 2 xs))
-two [] k out h = absurd (omega arith)
-two (x ∷ []) k out h = absurd (omega arith)
-two (x ∷ y ∷ rest) k out h = double x y rest k out
+-- one turn: two digits in front of the rest
+two : (ds rest : List ℕ) (k : ℕ) (out : List ℕ) → length ds ≡ 2 → unhex_at (ds ++ rest) k out ≡ byte_into (digit_of (get_or ds 0 0)) (digit_of (get_or ds 1 0)) k out (unhex_at rest)
+two [] rest k out h = absurd (omega arith)
+two (x ∷ []) rest k out h = absurd (omega arith)
+two (x ∷ y ∷ []) rest k out h = double x y rest k out
+two (x ∷ y ∷ z ∷ more) rest k out h = absurd (omega arith)
 
 module _ (whole : Result ℕ Fault × List ℕ) (xs : List ℕ) (k : ℕ) (out : List ℕ) (inv : whole ≡ unhex_at xs k out) where
-  module _ (l : 2 ≤ length xs) (h : Option ℕ) (eh : h ≡ digit_of (get_or xs 0 0)) where
-    pub hex_high : h ≡ None → ◌≡◌ {A = Result ℕ Fault × List ℕ} (Err Hex, out) whole
-    hex_high e = sym (inv ∙ two xs k out l ∙ rw (sym eh, e) refl)
+  pub hex_single : length xs ≡ 1 → ◌≡◌ {A = Result ℕ Fault × List ℕ} (Err Hex, out) whole
+  hex_single h = sym (inv ∙ one xs h)
+    where
+      one : (l : List ℕ) → length l ≡ 1 → unhex_at l k out ≡ (Err Hex, out)
+      one [] e = absurd (omega arith)
+      one (x ∷ []) e = single x k out
+      one (x ∷ y ∷ more) e = absurd (omega arith)
 
-    module _ (a : ℕ) (ea : h ≡ Some a) (d : Option ℕ) (ed : d ≡ digit_of (get_or xs 1 0)) where
-      opens : whole ≡ byte_into (Some a) d k out (unhex_at (drop 2 xs))
-      opens = inv ∙ two xs k out l ∙ rw (sym eh, ea, sym ed) refl
+  pub hex_end : length xs ≡ 0 → (n : ℕ) → n ≡ k → ◌≡◌ {A = Result ℕ Fault × List ℕ} (Ok n, out) whole
+  hex_end h n e = sym (inv ∙ nothing xs h)
+    where
+      nothing : (l : List ℕ) → length l ≡ 0 → unhex_at l k out ≡ (Ok n, out)
+      nothing [] z = none k out ∙ ap (λ (m : ℕ). (Ok m, out)) (sym e)
+      nothing (x ∷ more) z = absurd (omega arith)
+
+  module _ (ds rest : List ℕ) (is : xs ≡ ds ++ rest) (l : length ds ≡ 2) (h : Option ℕ) (eh : h ≡ digit_of (get_or ds 0 0)) where
+    turn : whole ≡ byte_into h (digit_of (get_or ds 1 0)) k out (unhex_at rest)
+    turn = inv ∙ ap (λ (l : List ℕ). unhex_at l k out) is ∙ two ds rest k out l ∙ rw (sym eh) refl
+
+    pub hex_high : h ≡ None → ◌≡◌ {A = Result ℕ Fault × List ℕ} (Err Hex, out) whole
+    hex_high e = sym (turn ∙ rw e refl)
+
+    module _ (a : ℕ) (ea : h ≡ Some a) (d : Option ℕ) (ed : d ≡ digit_of (get_or ds 1 0)) where
+      opens : whole ≡ byte_into (Some a) d k out (unhex_at rest)
+      opens = turn ∙ rw (ea, sym ed) refl
 
       pub hex_low : d ≡ None → ◌≡◌ {A = Result ℕ Fault × List ℕ} (Err Hex, out) whole
       hex_low e = sym (opens ∙ rw e refl)
@@ -50,14 +69,5 @@ module _ (whole : Result ℕ Fault × List ℕ) (xs : List ℕ) (k : ℕ) (out :
         pub hex_many : length out ≤ k → ◌≡◌ {A = Result ℕ Fault × List ℕ} (Err Many, out) whole
         hex_many f = sym (opens ∙ rw eb (when_yes _ _ _ (le-leb _ _ f)))
 
-        pub hex_next : k < length out → whole ≡ unhex_at (take (length xs - 2) (drop 2 xs)) (k + 1) (set out k (a * 16 + b))
-        hex_next f = opens ∙ rw eb (when_no _ _ _ (lt-leb _ _ f)) ∙ ap (λ (r : List ℕ). unhex_at r (k + 1) (set out k (a * 16 + b))) (sym (rest_whole xs 2))
-
-pub hex_end : (xs : List ℕ) (k : ℕ) (out : List ℕ) → true ≡ (length xs == 0) → ◌≡◌ {A = Result ℕ Fault × List ℕ} (Ok k, out) (unhex_at xs k out)
-hex_end [] k out e = sym (none k out)
-hex_end (x ∷ xs) k out e = absurd (omega (arith, eqb-true _ _ (sym e)))
-
-pub hex_left : (xs : List ℕ) (k : ℕ) (out : List ℕ) → length xs < 2 → false ≡ (length xs == 0) → ◌≡◌ {A = Result ℕ Fault × List ℕ} (Err Hex, out) (unhex_at xs k out)
-hex_left [] k out h e = cc e
-hex_left (x ∷ []) k out h e = sym (single x k out)
-hex_left (x ∷ y ∷ rest) k out h e = absurd (omega arith)
+        pub hex_next : (at : ℕ) → at ≡ k → (next : ℕ) → next ≡ k + 1 → at < length out → whole ≡ unhex_at rest next (set out at (a * 16 + b))
+        hex_next at e next n f = rw (n, e) (opens ∙ rw eb (when_no _ _ _ (lt-leb _ _ (rw (sym e) f))))

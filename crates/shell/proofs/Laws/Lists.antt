@@ -29,11 +29,11 @@ module _ {T : Type 0} (said : List ℕ → Result T Fault) (whole : Result ℕ F
       pub list_next : k < length out → (fewer : ℕ) → fewer ≡ left - 1 → whole ≡ list_from said fewer line i.next (k + 1) (set out k i.value)
       list_next f fewer d = rw d (opens ∙ ap (λ j. item_into j k out (list_from said (left - 1) line)) g ∙ when_no _ _ _ (lt-leb _ _ f))
 
-  pub list_end : left ≤ 0 → ◌≡◌ {A = Result ℕ Fault × List T} (Ok k, out) whole
+  pub list_end : left ≤ 0 → (n : ℕ) → n ≡ k → ◌≡◌ {A = Result ℕ Fault × List T} (Ok n, out) whole
   unfolding list_from
-  list_end h =
+  list_end h n e =
       let z : left ≡ zero = omega arith in
-      sym (inv ∙ ap (λ (n : ℕ). list_from said n line at k out) z)
+      rw e (sym (inv ∙ ap (λ (m : ℕ). list_from said m line at k out) z))
 
 pub list_begin : {T : Type 0} (said : List ℕ → Result T Fault) (line : List ℕ) (at k : ℕ) (out : List T) → list_from said (length line) line at k out ≡ list_from said (length line - 0) line at k out
 list_begin said line at k out = let e : length line ≡ length line - 0 = omega arith in ap (λ (n : ℕ). list_from said n line at k out) e
