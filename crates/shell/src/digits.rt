@@ -19,7 +19,7 @@ fn digit_count(n: u64) -> usize
 }
 
 // The last digits of a number, as many as a buffer holds. Written here and not by `write!`, since the contract is over the bytes of the buffer,
-// and by index, since after an adapter of `iter_mut` the library says nothing of the slice.
+// and by index, since no clause says what a slice holds after its `iter_mut().rev()`.
 fn write_digits(n: u64, out: &mut [u8])
     ensures { out.new ≡ last_digits 10 (length out.old) n }
 {

@@ -5,20 +5,16 @@ ghost use Rattle.shell.specs.Texts.{put_at, Printed};
 
 use crate::digits::{decimal, glyph};
 
-// The text from `at` on, as much of it as there is space for; answers where it ends. A loop that stops at the buffer's end, since
-// `copy_from_slice` would first need the two lengths cut to fit, and is no shorter; the place is counted by hand, as in `unhex`.
+// The text from `at` on, as much of it as there is space for; answers where it ends.
 pub fn put(text: &[u8], at: usize, out: &mut [u8]) -> usize
     ensures { (result, out.new) ≡ put_at text.now at out.old }
 {
-    let mut to = at;
-    for b in text {
-        if out.len() <= to {
-            break;
-        }
-        out[to] = *b;
-        to += 1;
+    if out.len() <= at {
+        return at;
     }
-    to
+    let n = text.len().min(out.len() - at);
+    out[at..at + n].copy_from_slice(&text[..n]);
+    at + n
 }
 
 // The decimal digits of a number.

@@ -7,7 +7,7 @@ use mathlib.Core.List.{List, [], ◌∷◌, ◌++◌, append_assoc, append-nil}
 use native.Mathlib.Omega.{arith}
 use native.Mathlib.Nat.{pow-suc, add-zero, zero-add}
 use lib.ListN.{length, take, drop, get_or, set, length-append, length-drop, take-append-drop}
-use lib.Seq.{drop_at, take-append_seam, set-append_seam, length-take-le}
+use lib.Seq.{drop_at, take_all, take-append_seam, set-append_seam, length-take-le}
 use borrow.Author.Tests.{le-ltb, lt-leb, ne_eqb}
 use Rattle.std.proofs.lemmas.Bool.Decides.{nat_tests}
 use Rattle.base.specs.Parts.{over}
@@ -19,7 +19,7 @@ use Rattle.shell.specs.Hexes.{digit_of, byte_into, unhex_at, hex_of}
 use Rattle.shell.specs.Texts.{put_at, Printed}
 use Rattle.shell.proofs.Laws.Numbers.{number_start, from_none, from_cons}
 use Rattle.shell.proofs.Laws.Hexes as hexes
-use Rattle.shell.proofs.Laws.Texts as texts
+use Rattle.shell.proofs.Laws.Texts.{put_in}
 
 -- Decimal: one digit more.
 digit_said : (d : ℕ) → d < 10 → decimal_digit (hex_digit_ascii d) ≡ Some d
@@ -57,30 +57,15 @@ number_back most (suc k) n l f =
     ∙ all_digits most (suc k) n [] l f.1 ∙ from_none most n
 
 -- Text that found its space stands where it was put.
-put_in : (done xs old : List ℕ) → length xs ≤ length old → put_at xs (length done) (done ++ old) ≡ (length done + length xs, done ++ over xs old)
-unfolding over
-put_in done [] old h = texts.none _ _ ∙ ap (λ (n : ℕ). (n, done ++ old)) (sym (add-zero (length done)))
-put_in done (x ∷ xs) [] h = absurd (omega arith)
-put_in done (x ∷ xs) (o ∷ os) h =
-    let fits : length done < length (done ++ (o ∷ os)) = simp length-append (omega arith) in
-    let rest : length xs ≤ length os = omega arith in
-    let place : length done + 1 ≡ length (done ++ (x ∷ [])) = simp length-append in
-    let end : length (done ++ (x ∷ [])) + length xs ≡ length done + suc (length xs) = simp length-append (omega arith) in
-    texts.cons x xs (length done) (done ++ (o ∷ os)) ∙ when_no _ _ _ (lt-leb _ _ fits)
-    ∙ ap₂ (λ (at : ℕ) (out : List ℕ). put_at xs at out) place (set-append_seam done o os x ∙ sym (append_assoc done (x ∷ []) os))
-    ∙ put_in (done ++ (x ∷ [])) xs os rest
-    ∙ ap₂ (λ (n : ℕ) (l : List ℕ). (n, l)) end (append_assoc done (x ∷ []) (over xs os))
-
 put_back : (xs : List ℕ) (at : ℕ) (out : List ℕ) → at + length xs ≤ length out → (end : ℕ) (after : List ℕ) → ◌≡◌ {A = ℕ × List ℕ} (end, after) (put_at xs at out) → take (end - at) (drop at after) ≡ xs
 unfolding over
 put_back xs at out h end after e =
     let front : length (take at out) ≡ at = length-take-le at out (omega arith) in
-    let room : length xs ≤ length (drop at out) = simp length-drop (omega arith) in
-    let p : ◌≡◌ {A = ℕ × List ℕ} (end, after) (length (take at out) + length xs, take at out ++ over xs (drop at out)) =
-    e ∙ ap₂ (λ (n : ℕ) (l : List ℕ). put_at xs n l) (sym front) (sym (take-append-drop at out)) ∙ put_in (take at out) xs (drop at out) room in
+    let p = e ∙ ap₂ (λ (n : ℕ) (l : List ℕ). put_at xs n l) (sym front) (sym (take-append-drop at out)) ∙ put_in (take at out) xs (drop at out) (length xs) (simp length-drop (omega arith)) in
     let n : length xs ≡ end - at = omega (arith, ap (λ (q : ℕ × List ℕ). q.0) p) in
     ap₂ (λ (k : ℕ) (l : List ℕ). take k (drop at l)) (sym n) (ap (λ (q : ℕ × List ℕ). q.1) p)
-    ∙ ap (take (length xs)) (drop_at (take at out) (over xs (drop at out)) at front)
+    ∙ ap (take (length xs)) (drop_at (take at out) (over (take (length xs) xs) (drop at out)) at front)
+    ∙ ap (λ (l : List ℕ). take (length xs) (over l (drop at out))) (take_all (length xs) xs (omega arith))
     ∙ take-append_seam xs (drop (length xs) (drop at out))
 
 -- The same of memory: where the print found its space, reading what it wrote gives the number.

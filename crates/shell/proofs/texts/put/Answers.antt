@@ -1,12 +1,10 @@
 -- `shell::texts::put` meets its contract.
-use Rattle.shell.proofs.Laws.Texts.{put_full, put_next, put_end}
+use Rattle.std.proofs.Common.{arith}
+use Rattle.shell.proofs.Laws.Texts.{put_full, put_done}
 use Rattle.shell.proofs.texts.put.Goals as goal
 
-pub loop-b-preserved : goal.loop-b-preserved
-loop-b-preserved c = search (put_next)
+pub returns-then-out-at : goal.returns-then-out-at
+returns-then-out-at c = put_full _ _ _ c.if-out-at.true
 
-pub returns-after-loop-b : goal.returns-after-loop-b
-returns-after-loop-b c = search (put_end)
-
-pub returns-then-out-to : goal.returns-then-out-to
-returns-then-out-to c = search (put_full)
+pub returns : goal.returns
+returns c = put_done _ _ _ c.if-out-at.false _ c.min-n.ensures _ c.copy_from_slice.ensures.after _ (omega arith)
