@@ -56,9 +56,7 @@ fn write<I: Iterator<Item = u64>>(count: u32, runs: I, out: &mut [u8]) -> Result
 pub fn write_unitig_color_runs(runs: &[u64], out: &mut [u8]) -> Result<usize, Refusal>
     ensures { (of_written result, out.new) ≡ write_runs runs.now out.old }
 {
-    let Ok(count) = u32::try_from(runs.len()) else {
-        return Err(Refusal::Runs);
-    };
+    let count = u32::try_from(runs.len()).map_err(|_| Refusal::Runs)?;
     write(count, runs.iter().copied(), out)
 }
 
