@@ -109,6 +109,7 @@ fn files_of(alloc: Global, text: &[u8]) -> Result<Vec<Option<File>>, AllocError>
 
 // How many lines are no file whose bytes are its sets.
 fn misread(alloc: Global, files: &[Option<File>]) -> Result<u64, AllocError> {
+    // Counted here and not by `filter` and `count`: `?` stands in the loop.
     let mut misread = 0u64;
     for file in files {
         let good = match file {

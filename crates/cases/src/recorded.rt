@@ -3,7 +3,7 @@ ghost use Rattle.std.specs.Prelude.{◌≡◌, IfOk, vec_len};
 
 use crate::numbers::{MOST_ITEMS, Narrow, fitting, list_of, numbers_of};
 use crate::operations;
-use shell::fields::front_mut;
+use shell::fields::split_front;
 use std::alloc::{AllocError, Global};
 use std::io;
 
@@ -133,7 +133,7 @@ impl<'a> Recorded<'a> {
 
     // As many places of an output as are lent, or all where it has fewer.
     pub fn lent<'b, T>(&self, output: &'b mut [T]) -> &'b mut [T] {
-        front_mut(output, self.space)
+        split_front(output, self.space).0
     }
 
     // Whether the answer is the one of the line, and the output holds what it says, with nothing altered behind it.
@@ -166,6 +166,7 @@ fn agrees(alloc: Global, line: &[u8]) -> Result<bool, AllocError> {
 
 // The call of each line.
 pub(crate) fn replay_all(rt: &impl Print, alloc: Global, text: &[u8]) -> io::Result<()> {
+    // Counted here and not by `enumerate` or `count`: both are told behind the loop, in which `?` stands.
     let mut lines = 0u64;
     let mut differ = 0u64;
     for line in text.split_inclusive(|byte| *byte == b'\n') {

@@ -1,7 +1,7 @@
 // The store, the memory that it works in, and its calls over as much of it as start said.
 use crate::replies::Trouble;
 use base::Refusal;
-use shell::fields::{front, front_mut};
+use shell::fields::{front, split_front};
 use shell::lengths::Lengths;
 use shell::reasons::Fault;
 use store::state::{Store, Told, Way};
@@ -49,7 +49,7 @@ impl Memory {
             colors,
             worker,
             front(&self.records, lengths.records),
-            front_mut(&mut self.index, lengths.index),
+            split_front(&mut self.index, lengths.index).0,
             front(&self.opened, lengths.opened),
             front(&self.held, lengths.held),
             front(&self.runs, lengths.runs),
@@ -73,8 +73,8 @@ impl Memory {
         let told = store.add(
             number,
             ids,
-            front_mut(&mut self.records, cell.records.length),
-            front_mut(&mut self.index, cell.index),
+            split_front(&mut self.records, cell.records.length).0,
+            split_front(&mut self.index, cell.index).0,
             front(&self.opened, cell.opened.length),
             front(&self.held, cell.held.length),
             front(&self.runs, shared.runs.length),
@@ -100,8 +100,8 @@ impl Memory {
             piece,
             front(&self.records, cell.records.length),
             front(&self.index, cell.index),
-            front_mut(&mut self.opened, cell.opened.length),
-            front_mut(&mut self.held, cell.held.length),
+            split_front(&mut self.opened, cell.opened.length).0,
+            split_front(&mut self.held, cell.held.length).0,
             front(&self.runs, shared.runs.length),
             front(&self.table, shared.table),
         );
@@ -119,8 +119,8 @@ impl Memory {
             front(&self.index, cell.index),
             front(&self.opened, cell.opened.length),
             front(&self.held, cell.held.length),
-            front_mut(&mut self.runs, shared.runs.length),
-            front_mut(&mut self.table, shared.table),
+            split_front(&mut self.runs, shared.runs.length).0,
+            split_front(&mut self.table, shared.table).0,
         );
         Ok(self.told(told)?)
     }

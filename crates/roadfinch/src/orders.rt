@@ -5,7 +5,7 @@ use crate::parse;
 use crate::replies::{Reply, Trouble, View};
 use codec::records::{read_color_record, write_color_record};
 use shell::commands::{Command, command_of};
-use shell::fields::{front, front_mut};
+use shell::fields::{front, split_front};
 use shell::hexes::unhex;
 use shell::lengths::Lengths;
 use shell::reasons::Fault;
@@ -118,7 +118,7 @@ impl Desk {
         if all < room {
             return Err(Trouble::Wrong(Fault::Length));
         }
-        let ids = front_mut(&mut self.ids, room);
+        let ids = split_front(&mut self.ids, room).0;
         let given = self.memory.show(unitig, vertex, ids)?;
         Ok(Reply::Ids(given as usize))
     }

@@ -1,5 +1,7 @@
 // The words of a line, and parts of a list.
-ghost use Rattle.std.specs.Prelude.{◌≡◌, ◌-◌, not, take, drop};
+ghost use Rattle.std.specs.Prelude.{◌≡◌, ◌-◌, ◌++◌, not, take, drop};
+ghost use Rattle.std.specs.Borrow.{LendsBoth, sem};
+ghost use denote.Array.{Array};
 ghost use Rattle.std.specs.List.{position};
 ghost use Rattle.shell.specs.Fields.{is_blank, field_at};
 
@@ -32,13 +34,14 @@ pub fn front<T>(xs: &[T], count: usize) -> &[T]
     &xs[..count.min(xs.len())]
 }
 
-// The same, lent to be written. No clause says what the list is afterwards: the check proves one only where the whole result of a call is handed
-// on, and this is a part of a slice.
-pub fn front_mut<T>(xs: &mut [T], count: usize) -> &mut [T]
-    ensures { result.now ≡ take count xs.old }
+// The same and the elements behind, lent to be written.
+pub fn split_front<T>(xs: &mut [T], count: usize) -> (&mut [T], &mut [T])
+    ensures front { result.0.now ≡ take count xs.old }
+    ensures behind { result.1.now ≡ drop count xs.old }
+    ensures* writes_back { sem 𝓛 (LendsBoth (Array T.row 0) (Array T.row 0) (Array T.row 0) xs.entry result ◌++◌) }
 {
     let end = count.min(xs.len());
-    &mut xs[..end]
+    xs.split_at_mut(end)
 }
 
 // Where the first byte stands that is no blank.

@@ -1,5 +1,5 @@
 // The memory of a run.
-use shell::fields::{front, front_mut};
+use shell::fields::{front, split_front};
 use shell::lengths::Lengths;
 use std::alloc::{AllocError, Global};
 
@@ -30,7 +30,7 @@ impl<T: Copy + PartialEq + From<u8>> Buffer<T> {
     }
 
     pub fn front_mut(&mut self) -> &mut [T] {
-        front_mut(&mut self.places, self.lent)
+        split_front(&mut self.places, self.lent).0
     }
 
     // Writes one place, where the buffer has it.
