@@ -34,6 +34,3 @@ module _ {T : Type 0} (said : List ℕ → Result T Fault) (whole : Result ℕ F
   list_end h n e =
       let z : left ≡ zero = omega arith in
       rw e (sym (inv ∙ ap (λ (m : ℕ). list_from said m line at k out) z))
-
-pub list_begin : {T : Type 0} (said : List ℕ → Result T Fault) (line : List ℕ) (at k : ℕ) (out : List T) → list_from said (length line) line at k out ≡ list_from said (length line - 0) line at k out
-list_begin said line at k out = let e : length line ≡ length line - 0 = omega arith in ap (λ (n : ℕ). list_from said n line at k out) e

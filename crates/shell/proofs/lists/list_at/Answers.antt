@@ -1,11 +1,8 @@
 -- `shell::lists::list_at` meets its contract.
 use Rattle.std.proofs.Common.{◌≡◌, rules, arith, ap, ◌∙◌}
 use Rattle.std.specs.Prelude.{Ok, Err}
-use Rattle.shell.proofs.Laws.Lists.{list_none, list_wrong, list_many, list_next, list_end, list_begin}
+use Rattle.shell.proofs.Laws.Lists.{list_none, list_wrong, list_many, list_next, list_end}
 use Rattle.shell.proofs.lists.list_at.Goals as goal
-
-pub loop-k-init : goal.loop-k-init
-loop-k-init g c = list_begin _ _ _ _ _
 
 pub returns-in_err-item : goal.returns-in_err-item
 returns-in_err-item g c =
