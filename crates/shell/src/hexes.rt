@@ -15,6 +15,7 @@ pub fn unhex(text: &[u8], out: &mut [u8]) -> Result<usize, Fault>
         };
         let high = char::from(*high).to_digit(16).ok_or(Fault::Hex)?;
         let low = char::from(*low).to_digit(16).ok_or(Fault::Hex)?;
+        // By index: no clause says what a slice holds after its `get_mut`.
         if out.len() <= k {
             return Err(Fault::Many);
         }

@@ -68,6 +68,7 @@ pub fn list_at<T: Word>(line: &[u8], from: usize, out: &mut [T]) -> Result<usize
         let Some(item) = item_at(line, at)? else {
             return Ok(k);
         };
+        // By index: no clause says what a slice holds after its `get_mut`.
         if out.len() <= k {
             return Err(Fault::Many);
         }
