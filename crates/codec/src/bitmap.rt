@@ -12,6 +12,7 @@ ghost use Rattle.codec.specs.Inside.Bodies.{map_in};
 use crate::bits::BitWriter;
 use crate::body::Body;
 use crate::colors::ColorSet;
+use crate::source::Source;
 
 // A chunk of the bitmap, and how many ids of the set are passed behind it.
 #[derive(Clone, Copy)]
@@ -62,18 +63,18 @@ pub(crate) fn write_map(w: &mut BitWriter, set: ColorSet)
 }
 
 // The place behind the bitmap, where it stands at bit place `at`.
-pub(crate) fn same_map(bytes: &[u8], at: usize, set: ColorSet) -> Option<usize>
-    requires { (length bytes.now < 2 ^ 60) × (at ≤ 8 * length bytes.now) }
-    ensures { BitsAt (map_bits 0 set.entry.n set.entry.ids.now) bytes.now at result }
+pub(crate) fn same_map(source: Source, at: usize, set: ColorSet) -> Option<usize>
+    requires { at ≤ 8 * length source.bytes.now }
+    ensures { BitsAt (map_bits 0 set.entry.n set.entry.ids.now) source.entry.bytes.now at result }
 {
-    if bytes.len() * 8 - at < set.n as usize {
+    if source.bytes.len() * 8 - at < set.n as usize {
         return None;
     }
     let mut i: usize = 0;
     for base in (0..set.n).step_by(32) {
         let width = chunk_width(base, set.n);
         let c = map_chunk(set, i, base, width);
-        if crate::bits::bits_at(bytes, at + base as usize, width as usize) != c.word {
+        if crate::bits::bits_at(source.bytes, at + base as usize, width as usize) != c.word {
             return None;
         }
         i = c.next;

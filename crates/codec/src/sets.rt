@@ -185,7 +185,7 @@ pub(crate) fn same_body(set: ColorSet, source: Source, at: usize) -> Option<usiz
     match kind_of(set.n, set.ids.len()) {
         Kind::Empty => Some(at),
         Kind::Sparse => crate::gaps::same_gaps::<Present>(source, at, set),
-        Kind::Bitmap => crate::bitmap::same_map(source.bytes, at, set),
+        Kind::Bitmap => crate::bitmap::same_map(source, at, set),
         Kind::Dense => crate::gaps::same_gaps::<Absent>(source, at, set),
     }
 }

@@ -38,16 +38,16 @@ module _ (bytes : List ℕ) (at N : ℕ) (ids : List ℕ) (i base : ℕ) (stands
       let n : at + base ≡ at + N = omega (arith, stands.1.ahead.below) in
       (stands.2 ∙ ap (λ (x : List Bool). x ++ drop (at + base) (bits_of bytes)) (sym (mapping_end N ids i base stands.0 stands.1 h)) ∙ ap (λ (k : ℕ). map_bits 0 N ids ++ drop k (bits_of bytes)) n, inside)
 
-pub returns-then-bytes-at : goal.returns-then-bytes-at
-returns-then-bytes-at c =
+pub returns-then-source-at : goal.returns-then-source-at
+returns-then-source-at c =
     let a = c.args in
-    λ rest e. omega (arith, length-drop a.at (bits_of a.bytes.now), length_bits a.bytes.now, ap length e ∙ length-append (map_bits 0 a.set.n a.set.ids.now) rest, length_map_bits a.set.n 0 a.set.ids.now)
+    λ rest e. omega (arith, length-drop a.at (bits_of a.source.bytes.now), length_bits a.source.bytes.now, ap length e ∙ length-append (map_bits 0 a.set.n a.set.ids.now) rest, length_map_bits a.set.n 0 a.set.ids.now)
 
 pub loop-base-init : goal.loop-base-init
 loop-base-init c =
     let a = c.args in
     let z : a.at ≡ a.at + 0 = omega arith in
-    ([], mapping_start a.set.n a.set.ids.now a.set.within, ap (λ (k : ℕ). drop k (bits_of a.bytes.now)) z)
+    ([], mapping_start a.set.n a.set.ids.now a.set.within, ap (λ (k : ℕ). drop k (bits_of a.source.bytes.now)) z)
 
 pub returns-then-bits_at-c : goal.returns-then-bits_at-c
 returns-then-bits_at-c c =
@@ -58,17 +58,17 @@ pub loop-base-preserved : goal.loop-base-preserved
 loop-base-preserved c =
     let a = c.args in
     let whole : c.loop-base.base + c.chunk_width-width.result ≡ c.loop-base.base + 32 = omega (arith, c.chunk_width-width.ensures) in
-    subst (Stands a.bytes.now a.at a.set.n a.set.ids.now c.map_chunk-c.result.next) whole
-    (one_more a.bytes.now a.at a.set.n a.set.ids.now c.loop-base.i c.loop-base.base c.loop-base.invariant c.chunk_width-width.result c.map_chunk-c.result c.map_chunk-c.ensures (omega (arith, c.chunk_width-width.ensures)) (sym c.bits_at.ensures.0 ∙ c.if-bits_at-c.false))
+    subst (Stands a.source.bytes.now a.at a.set.n a.set.ids.now c.map_chunk-c.result.next) whole
+    (one_more a.source.bytes.now a.at a.set.n a.set.ids.now c.loop-base.i c.loop-base.base c.loop-base.invariant c.chunk_width-width.result c.map_chunk-c.result c.map_chunk-c.ensures (omega (arith, c.chunk_width-width.ensures)) (sym c.bits_at.ensures.0 ∙ c.if-bits_at-c.false))
 
 pub returns : goal.returns
 returns c =
     let a = c.args in
-    let inside : a.at + a.set.n ≤ 8 * length a.bytes.now = omega arith in
+    let inside : a.at + a.set.n ≤ 8 * length a.source.bytes.now = omega arith in
     elim c.loop-base-test.branch [
-      | else-loop-base-test w ↦ all_stand a.bytes.now a.at a.set.n a.set.ids.now c.loop-base.i c.loop-base.base c.loop-base.invariant (omega (arith, w.loop-base-test.false)) inside
+      | else-loop-base-test w ↦ all_stand a.source.bytes.now a.at a.set.n a.set.ids.now c.loop-base.i c.loop-base.base c.loop-base.invariant (omega (arith, w.loop-base-test.false)) inside
       | then-loop-base-test+else-bits_at-c+else-base-end-base-gt32 w ↦
-          all_stand a.bytes.now a.at a.set.n a.set.ids.now w.map_chunk-c.result.next (c.loop-base.base + w.chunk_width-width.result)
-          (one_more a.bytes.now a.at a.set.n a.set.ids.now c.loop-base.i c.loop-base.base c.loop-base.invariant w.chunk_width-width.result w.map_chunk-c.result w.map_chunk-c.ensures (omega (arith, w.chunk_width-width.ensures)) (sym w.bits_at.ensures.0 ∙ w.if-bits_at-c.false))
+          all_stand a.source.bytes.now a.at a.set.n a.set.ids.now w.map_chunk-c.result.next (c.loop-base.base + w.chunk_width-width.result)
+          (one_more a.source.bytes.now a.at a.set.n a.set.ids.now c.loop-base.i c.loop-base.base c.loop-base.invariant w.chunk_width-width.result w.map_chunk-c.result w.map_chunk-c.ensures (omega (arith, w.chunk_width-width.ensures)) (sym w.bits_at.ensures.0 ∙ w.if-bits_at-c.false))
           (omega (arith, w.chunk_width-width.ensures)) inside
     ]
