@@ -23,6 +23,7 @@ pub mod Encoded
 pub mod Decoding
 pub mod Records
 pub mod Reading
+pub mod Refusals
 pub mod Exactly
 pub mod History
 pub mod Compared

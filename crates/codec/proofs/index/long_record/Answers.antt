@@ -1,6 +1,6 @@
 -- `index::long_record` meets its contract: the prefix's answer says where the payload starts and how long it is.
 use native.Mathlib.Omega.{arith}
-use Rattle.std.proofs.lemmas.Result.{err_from_is_err_and}
+use Rattle.codec.proofs.Laws.Refusals.{passed_on}
 use mathlib.Core.List.{[], ◌∷◌}
 use Rattle.base.specs.Answers.{done}
 use Rattle.codec.proofs.Laws.Indexing.{Says, part_says, step_up, step_start_lem, step_cut, step_next}
@@ -14,8 +14,7 @@ said c =
 
 pub returns-in_err-value : goal.returns-in_err-value
 returns-in_err-value c =
-    let p = err_from_is_err_and c.from_residual.result c.from_residual.ensures.1 in
-    rw (p.1, p.2) (step_up _ _ c.requires _ (part_says c.args.bytes.now c.args.at c.in_err-value.ensures))
+    rw (passed_on c.from_residual.ensures.1) (step_up _ _ c.requires _ (part_says c.args.bytes.now c.args.at c.in_err-value.ensures))
 
 pub overflow_add-start : goal.overflow_add-start
 overflow_add-start c = omega (arith, step_start_lem _ _ c.requires _ _ (said c))

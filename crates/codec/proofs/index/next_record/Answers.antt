@@ -4,7 +4,7 @@ use mathlib.Core.Path.{sym, ◌∙◌, subst}
 use mathlib.Core.List.{[], ◌∷◌}
 use native.Mathlib.Omega.{arith}
 use Rattle.base.specs.Answers.{done}
-use Rattle.std.proofs.lemmas.Result.{err_from_is_err_and}
+use Rattle.codec.proofs.Laws.Refusals.{passed_on}
 use Rattle.codec.proofs.Laws.Items.{item_there, item_past, refused_as}
 use Rattle.codec.proofs.Laws.Indexing.{Says, says_none, says_byte, step_up, step_cut, step_next}
 use Rattle.codec.proofs.index.next_record.Goals as goal
@@ -12,9 +12,8 @@ use Rattle.codec.proofs.index.next_record.Goals.{Else-size-ge128}
 
 pub returns-in_err-first : goal.returns-in_err-first
 returns-in_err-first c =
-    let p = err_from_is_err_and c.from_residual.result c.from_residual.ensures.1 in
     let e = refused_as c.get.result _ _ c.in_err-first.ensures.ok_part c.in_err-first.ensures.value in
-    rw (p.1, p.2, e) (step_up _ _ c.requires 4 (says_none c.args.bytes.now c.args.at (item_past _ _ _ c.get.ensures.lookup c.in_err-first.ensures.ok_part)))
+    rw (passed_on c.from_residual.ensures.1, e) (step_up _ _ c.requires 4 (says_none c.args.bytes.now c.args.at (item_past _ _ _ c.get.ensures.lookup c.in_err-first.ensures.ok_part)))
 
 said : (c : goal.Else-size-ge128) → Says c.args.bytes.now c.args.at (done (c.from-size.result ∷ 1 ∷ []))
 said c =

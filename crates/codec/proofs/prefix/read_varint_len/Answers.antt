@@ -4,7 +4,7 @@ use native.Mathlib.Omega.{arith}
 use native.Mathlib.Nat.{lt_of_lt_of_le}
 use lib.ListN.{length, get_or}
 use lib.Pow.{pow_mono}
-use Rattle.std.proofs.lemmas.Result.{err_from_is_err_and}
+use Rattle.codec.proofs.Laws.Refusals.{passed_on}
 use Rattle.codec.specs.Prefix.{prefix_in}
 use Rattle.codec.proofs.Laws.Bits.{shift_fits}
 use Rattle.codec.proofs.Laws.Items.{item_there, item_past, refused_as}
@@ -17,9 +17,8 @@ loop-i-init c = sofar_none c.args.bytes.now
 
 pub returns-in_err-byte : goal.returns-in_err-byte
 returns-in_err-byte c =
-    let p = err_from_is_err_and c.from_residual.result c.from_residual.ensures.1 in
     let e = refused_as c.get.result _ _ c.in_err-byte.ensures.ok_part c.in_err-byte.ensures.value in
-    rw (p.1, p.2, e)
+    rw (passed_on c.from_residual.ensures.1, e)
     (sym (ap (prefix_in (length c.args.bytes.now)) (sofar_cut c.args.bytes.now c.loop-i.value c.loop-i.i 0 c.loop-i-test.true c.loop-i.invariant (item_past _ _ _ c.get.ensures.lookup c.in_err-byte.ensures.ok_part))))
 
 -- the byte of this turn

@@ -2,7 +2,7 @@
 use Prim.Native.Nat.{ℕ, ◌+◌}
 use mathlib.Core.Path.{sym, ap, ◌∙◌}
 use mathlib.Core.List.{[], ◌∷◌}
-use Rattle.std.proofs.lemmas.Result.{err_from_is_err_and}
+use Rattle.codec.proofs.Laws.Refusals.{passed_on}
 use Rattle.base.specs.Answers.{done}
 use Rattle.codec.proofs.Laws.Colors.{turned_length, taken_length}
 use Rattle.codec.proofs.Laws.Encoded.{record_length_lem}
@@ -10,8 +10,7 @@ use Rattle.codec.proofs.records.color_record_len.Goals as goal
 
 pub returns-in_err-set : goal.returns-in_err-set
 returns-in_err-set c =
-    let p = err_from_is_err_and c.from_residual.result c.from_residual.ensures.1 in
-    rw (p.1, p.2) (sym (turned_length c.args.n c.args.ids.now _ c.in_err-set.ensures.refused))
+    rw (passed_on c.from_residual.ensures.1) (sym (turned_length c.args.n c.args.ids.now _ c.in_err-set.ensures.refused))
 
 pub returns : goal.returns
 returns c =

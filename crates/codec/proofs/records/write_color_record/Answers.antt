@@ -7,7 +7,7 @@ use native.Mathlib.Omega.{arith}
 use lib.Dec.{ltb, leb}
 use lib.ListN.{length}
 use borrow.Author.Tests.{ltb-true, leb-true}
-use Rattle.std.proofs.lemmas.Result.{err_from_is_err_and}
+use Rattle.codec.proofs.Laws.Refusals.{passed_on}
 use Rattle.base.specs.Answers.{done}
 use Rattle.base.proofs.Bools.{and_true}
 use Rattle.codec.specs.Records.{record_of}
@@ -21,8 +21,7 @@ told_short n room e = let t = and_true (ltb n 136) (leb 128 room) e in (ltb-true
 
 pub returns-in_err-set : goal.returns-in_err-set
 returns-in_err-set c =
-    let p = err_from_is_err_and c.from_residual.result c.from_residual.ensures.1 in
-    rw (p.1, p.2) (sym (turned_write c.args.n c.args.ids.now _ c.in_err-set.ensures.refused c.args.out.now))
+    rw (passed_on c.from_residual.ensures.1) (sym (turned_write c.args.n c.args.ids.now _ c.in_err-set.ensures.refused c.args.out.now))
 
 pub write_short-requires : goal.write_short-requires
 write_short-requires c =
