@@ -10,18 +10,16 @@ mod texts; // lists as text
 
 use crate::memory::Memory;
 use crate::session::{Head, Session};
-use shell::inputs;
 use std::io;
-use std::io::{BufWriter, Write};
+use std::io::{BufWriter, Read, Write};
 
 // How many bytes of input are read.
-const MOST_BYTES: usize = 1048576;
+const MOST_BYTES: u64 = 1048576;
 
 fn main(rt: HostRuntime) -> io::Result<()> {
     let alloc = rt.alloc();
-    let mut text = vec![in alloc; 0u8; MOST_BYTES]?;
-    let count = inputs::read_full(&mut rt.stdin(), &mut text)?;
-    text.truncate(count);
+    let mut text = Vec::new(alloc);
+    rt.stdin().take(MOST_BYTES).read_to_end(&mut text)?;
     let mut lines: Vec<&[u8]> = text.split(|byte| *byte == b'\n').collect(alloc)?;
     // Behind the last line end there is a line only where there is a byte.
     if lines.last().is_some_and(|line| line.is_empty()) {
