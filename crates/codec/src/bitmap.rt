@@ -23,8 +23,8 @@ pub(crate) struct MapChunk {
 
 // The bits for the `width` ids from `base` on, of which place `i` of the set is the first.
 pub(crate) fn map_chunk(set: ColorSet, i: usize, base: u32, width: u32) -> MapChunk
-    requires { Ahead set.n set.ids.now (record { i = i; from = base }) × (width ≤ 32) × (base + width ≤ set.n) }
-    ensures { MapOf set.entry.n set.entry.ids.now i base width result }
+    requires { Ahead set.colors.n set.ids.now (record { i = i; from = base }) × (width ≤ 32) × (base + width ≤ set.colors.n) }
+    ensures { MapOf set.entry.colors.n set.entry.ids.now i base width result }
 {
     let mut word: u64 = 0;
     for (k, &id) in set.ids[i..].iter().enumerate() {
@@ -49,13 +49,13 @@ pub(crate) fn chunk_width(base: u32, n: u32) -> u32
 
 // The bitmap behind the bits of `w`.
 pub(crate) fn write_map(w: &mut BitWriter, set: ColorSet)
-    requires { Ready w.old set.n }
+    requires { Ready w.old set.colors.n }
     ensures same_reference { w.new.out.ghost_name ≡ w.old.out.ghost_name }
-    ensures wrote { Wrote w.old w.new (map_bits 0 set.entry.n set.entry.ids.now) }
+    ensures wrote { Wrote w.old w.new (map_bits 0 set.entry.colors.n set.entry.ids.now) }
 {
     let mut i: usize = 0;
-    for base in (0..set.n).step_by(32) {
-        let width = chunk_width(base, set.n);
+    for base in (0..set.colors.n).step_by(32) {
+        let width = chunk_width(base, set.colors.n);
         let c = map_chunk(set, i, base, width);
         w.push(c.word, width);
         i = c.next;
@@ -65,21 +65,21 @@ pub(crate) fn write_map(w: &mut BitWriter, set: ColorSet)
 // The place behind the bitmap, where it stands at bit place `at`.
 pub(crate) fn same_map(source: Source, at: usize, set: ColorSet) -> Option<usize>
     requires { at ≤ 8 * length source.bytes.now }
-    ensures { BitsAt (map_bits 0 set.entry.n set.entry.ids.now) source.entry.bytes.now at result }
+    ensures { BitsAt (map_bits 0 set.entry.colors.n set.entry.ids.now) source.entry.bytes.now at result }
 {
-    if source.bytes.len() * 8 - at < set.n as usize {
+    if source.bytes.len() * 8 - at < set.colors.n as usize {
         return None;
     }
     let mut i: usize = 0;
-    for base in (0..set.n).step_by(32) {
-        let width = chunk_width(base, set.n);
+    for base in (0..set.colors.n).step_by(32) {
+        let width = chunk_width(base, set.colors.n);
         let c = map_chunk(set, i, base, width);
         if crate::bits::bits_at(source.bytes, at + base as usize, width as usize) != c.word {
             return None;
         }
         i = c.next;
     }
-    Some(at + set.n as usize)
+    Some(at + set.colors.n as usize)
 }
 
 // The ids that the low `width` bits of `word` tell, from `base` on, to place `k` of `out` on: the place

@@ -30,23 +30,21 @@ impl Colors {
 // Ids that ascend strictly, all below a colour count inside its limits.
 #[derive(Clone, Copy)]
 pub(crate) struct ColorSet<'a> {
-    pub(crate) n: u32,
+    pub(crate) colors: Colors,
     pub(crate) ids: &'a [u32],
-    ghost some: { 1 ≤ n },
-    ghost few: { n ≤ 2 ^ 20 },
-    ghost within: { Within 0 n ids.now } by { Within-prop 0 n ids.now },
+    ghost within: { Within 0 colors.n ids.now } by { Within-prop 0 colors.n ids.now },
 }
 
 impl<'a> ColorSet<'a> {
     // The colour count is tested before the ids.
     pub(crate) fn new(n: u32, ids: &'a [u32]) -> Result<Self, Refusal>
-        ensures taken { IfOk result (λ s. (s.n ≡ n) × (s.ids ≡ ids.entry)) }
+        ensures taken { IfOk result (λ s. (s.colors.n ≡ n) × (s.ids ≡ ids.entry)) }
         ensures refused { IfErr result (λ r. Turned n ids.now (number_of r)) }
     {
         let colors = Colors::new(n)?;
         if !crate::sets::is_ascending(ids, colors.n) {
             return Err(Refusal::Ids);
         }
-        Ok(Self { n: colors.n, ids })
+        Ok(Self { colors, ids })
     }
 }

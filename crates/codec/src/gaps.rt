@@ -35,8 +35,8 @@ pub(crate) trait CodedIds {
 
     // The next id to code, if there is one.
     fn next_id(set: ColorSet, c: Cursor) -> Option<NextId>
-        requires { Ahead set.n set.ids.now c }
-        ensures { Gave dense set.entry.n set.entry.ids.now c result };
+        requires { Ahead set.colors.n set.ids.now c }
+        ensures { Gave dense set.entry.colors.n set.entry.ids.now c result };
 }
 
 // A sparse set codes its own ids.
@@ -60,8 +60,8 @@ fn count_up(ids: &[u32], i: usize, from: u32) -> usize
 
 // How many ids from the cursor on go up by one from its number, one at a time: `low` do.
 fn skip_last(set: ColorSet, c: Cursor, low: usize) -> usize
-    requires { Skipped set.n set.ids.now c.i c.from low }
-    ensures { Skipped set.entry.n set.entry.ids.now c.i c.from result × Within (c.from + result + 1) set.entry.n (drop (c.i + result) set.entry.ids.now) }
+    requires { Skipped set.colors.n set.ids.now c.i c.from low }
+    ensures { Skipped set.entry.colors.n set.entry.ids.now c.i c.from result × Within (c.from + result + 1) set.entry.colors.n (drop (c.i + result) set.entry.ids.now) }
 {
     let left = set.ids.len() - c.i;
     for (k, &id) in (low..left).zip(&set.ids[c.i + low..]) {
@@ -76,8 +76,8 @@ fn skip_last(set: ColorSet, c: Cursor, low: usize) -> usize
 // of eight tells. Each loop over absent ids holds this code itself, as a call of its own slows it.
 #[inline(always)]
 fn skip_present(set: ColorSet, c: Cursor) -> usize
-    requires { Ahead set.n set.ids.now c }
-    ensures { Skipped set.entry.n set.entry.ids.now c.i c.from result × Within (c.from + result + 1) set.entry.n (drop (c.i + result) set.entry.ids.now) }
+    requires { Ahead set.colors.n set.ids.now c }
+    ensures { Skipped set.entry.colors.n set.entry.ids.now c.i c.from result × Within (c.from + result + 1) set.entry.colors.n (drop (c.i + result) set.entry.ids.now) }
 {
     let left = set.ids.len() - c.i;
     // Eights by number: over `as_chunks` dense sets are written 1 to 3% slower.
@@ -118,7 +118,7 @@ impl CodedIds for Absent {
     fn next_id(set: ColorSet, c: Cursor) -> Option<NextId> {
         let k = skip_present(set, c);
         let id = c.from + k as u32;
-        if set.n <= id {
+        if set.colors.n <= id {
             return None;
         }
         Some(NextId {
@@ -133,7 +133,7 @@ impl CodedIds for Absent {
 
 // How many bits the coded ids of a set take.
 pub(crate) fn gaps_len<C: CodedIds>(set: ColorSet) -> usize
-    ensures { result ≡ length (gap_bits 0 (coded_ids C.dense set.entry.n set.entry.ids.now)) }
+    ensures { result ≡ length (gap_bits 0 (coded_ids C.dense set.entry.colors.n set.entry.ids.now)) }
 {
     let mut bits: usize = 0;
     let mut c = Cursor { i: 0, from: 0 };
@@ -146,9 +146,9 @@ pub(crate) fn gaps_len<C: CodedIds>(set: ColorSet) -> usize
 
 // The coded ids of a set behind the bits of `w`.
 pub(crate) fn write_gaps<C: CodedIds>(w: &mut BitWriter, set: ColorSet)
-    requires { Ready w.old (length (gap_bits 0 (coded_ids C.dense set.n set.ids.now))) }
+    requires { Ready w.old (length (gap_bits 0 (coded_ids C.dense set.colors.n set.ids.now))) }
     ensures same_reference { w.new.out.ghost_name ≡ w.old.out.ghost_name }
-    ensures wrote { Wrote w.old w.new (gap_bits 0 (coded_ids C.dense set.entry.n set.entry.ids.now)) }
+    ensures wrote { Wrote w.old w.new (gap_bits 0 (coded_ids C.dense set.entry.colors.n set.entry.ids.now)) }
 {
     let mut c = Cursor { i: 0, from: 0 };
     while let Some(NextId { id, next }) = C::next_id(set, c) {
@@ -160,7 +160,7 @@ pub(crate) fn write_gaps<C: CodedIds>(w: &mut BitWriter, set: ColorSet)
 // The place behind the coded ids of a set, where they stand at bit place `at`.
 pub(crate) fn same_gaps<C: CodedIds>(source: Source, at: usize, set: ColorSet) -> Option<usize>
     requires { at ≤ 8 * length source.bytes.now }
-    ensures { BitsAt (gap_bits 0 (coded_ids C.dense set.entry.n set.entry.ids.now)) source.entry.bytes.now at result }
+    ensures { BitsAt (gap_bits 0 (coded_ids C.dense set.entry.colors.n set.entry.ids.now)) source.entry.bytes.now at result }
 {
     let mut place = at;
     let mut c = Cursor { i: 0, from: 0 };

@@ -31,7 +31,7 @@ pub fn color_record_len(n: u32, ids: &[u32]) -> Result<usize, Refusal>
 
 // How many bytes the payload of a set has.
 fn payload_len(set: ColorSet) -> u32
-    ensures { result ≡ length (encode_set set.entry.n set.entry.ids.now) }
+    ensures { result ≡ length (encode_set set.entry.colors.n set.entry.ids.now) }
 {
     crate::sets::set_len(set).div_ceil(8) as u32
 }
@@ -46,8 +46,8 @@ fn is_short(n: u32, room: usize) -> bool
 // The record of a set to the front of `out`: how long it is. With so few colours a payload has fewer than 128
 // bytes, so that it needs no measuring before it is written behind its length.
 fn write_short(set: ColorSet, out: &mut [u8]) -> usize
-    requires { (set.n < 136) × (128 ≤ length out.old) }
-    ensures { (result ≡ length (record_of set.entry.n set.entry.ids.now)) × (result ≤ 128) × (out.new ≡ over (record_of set.entry.n set.entry.ids.now) out.old) }
+    requires { (set.colors.n < 136) × (128 ≤ length out.old) }
+    ensures { (result ≡ length (record_of set.entry.colors.n set.entry.ids.now)) × (result ≤ 128) × (out.new ≡ over (record_of set.entry.colors.n set.entry.ids.now) out.old) }
 {
     let len = crate::sets::encode_source_set(&mut out[1..], set);
     out[0] = len as u8;

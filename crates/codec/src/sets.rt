@@ -62,24 +62,24 @@ pub(crate) fn kind_of(n: u32, len: usize) -> Kind
 
 // How many bits a set takes.
 pub(crate) fn set_len(set: ColorSet) -> usize
-    ensures { (result ≡ length (set_bits set.entry.n set.entry.ids.now)) × (result < 2 ^ 26) }
+    ensures { (result ≡ length (set_bits set.entry.colors.n set.entry.ids.now)) × (result < 2 ^ 26) }
 {
     let head = crate::codes::delta_len(set.ids.len() as u32);
-    match kind_of(set.n, set.ids.len()) {
+    match kind_of(set.colors.n, set.ids.len()) {
         Kind::Empty => head,
         Kind::Sparse => head + crate::gaps::gaps_len::<Present>(set),
-        Kind::Bitmap => head + set.n as usize,
+        Kind::Bitmap => head + set.colors.n as usize,
         Kind::Dense => head + crate::gaps::gaps_len::<Absent>(set),
     }
 }
 
 // The ids behind the bits of `w`.
 pub(crate) fn write_body(w: &mut BitWriter, set: ColorSet)
-    requires { Ready w.old (length (body_bits (regime set.n (length set.ids.now)) set.n set.ids.now)) }
+    requires { Ready w.old (length (body_bits (regime set.colors.n (length set.ids.now)) set.colors.n set.ids.now)) }
     ensures same_reference { w.new.out.ghost_name ≡ w.old.out.ghost_name }
-    ensures wrote { Wrote w.old w.new (body_bits (regime set.entry.n (length set.entry.ids.now)) set.entry.n set.entry.ids.now) }
+    ensures wrote { Wrote w.old w.new (body_bits (regime set.entry.colors.n (length set.entry.ids.now)) set.entry.colors.n set.entry.ids.now) }
 {
-    match kind_of(set.n, set.ids.len()) {
+    match kind_of(set.colors.n, set.ids.len()) {
         Kind::Empty => {}
         Kind::Sparse => crate::gaps::write_gaps::<Present>(w, set),
         Kind::Bitmap => crate::bitmap::write_map(w, set),
@@ -89,8 +89,8 @@ pub(crate) fn write_body(w: &mut BitWriter, set: ColorSet)
 
 // The payload of a set to the front of `out`: how many bytes it has.
 pub(crate) fn encode_source_set(out: &mut [u8], set: ColorSet) -> usize
-    requires { length (encode_set set.n set.ids.now) ≤ length out.old }
-    ensures { (result ≡ length (encode_set set.entry.n set.entry.ids.now)) × (out.new ≡ over (encode_set set.entry.n set.entry.ids.now) out.old) }
+    requires { length (encode_set set.colors.n set.ids.now) ≤ length out.old }
+    ensures { (result ≡ length (encode_set set.entry.colors.n set.entry.ids.now)) × (out.new ≡ over (encode_set set.entry.colors.n set.entry.ids.now) out.old) }
 {
     let mut w = BitWriter::new(out);
     crate::codes::write_delta(&mut w, set.ids.len() as u32);
@@ -180,9 +180,9 @@ pub(crate) fn check_set<'a>(
 // The place behind the bits of a set's ids, where they stand at bit place `at`.
 pub(crate) fn same_body(set: ColorSet, source: Source, at: usize) -> Option<usize>
     requires { at ≤ 8 * length source.bytes.now }
-    ensures { BitsAt (body_bits (regime set.entry.n (length set.entry.ids.now)) set.entry.n set.entry.ids.now) source.entry.bytes.now at result }
+    ensures { BitsAt (body_bits (regime set.entry.colors.n (length set.entry.ids.now)) set.entry.colors.n set.entry.ids.now) source.entry.bytes.now at result }
 {
-    match kind_of(set.n, set.ids.len()) {
+    match kind_of(set.colors.n, set.ids.len()) {
         Kind::Empty => Some(at),
         Kind::Sparse => crate::gaps::same_gaps::<Present>(source, at, set),
         Kind::Bitmap => crate::bitmap::same_map(source, at, set),
@@ -195,7 +195,7 @@ pub(crate) fn same_body(set: ColorSet, source: Source, at: usize) -> Option<usiz
 #[inline(never)]
 pub(crate) fn same_set(set: ColorSet, payload: &[u8]) -> bool
     requires { length payload.now < 2 ^ 60 }
-    ensures { result ≡ gives_set (decode_set set.entry.n payload.now) set.entry.ids.now }
+    ensures { result ≡ gives_set (decode_set set.entry.colors.n payload.now) set.entry.ids.now }
 {
     let Some(ReadCode { value, next }) = crate::reader::first_delta(payload) else {
         return false;

@@ -27,12 +27,12 @@ pub loop-k-init : goal.loop-k-init
 loop-k-init c =
     let a = c.args in
     let z : a.i ≡ a.i + 0 = omega arith in
-    subst (Chunked a.set.n a.set.ids.now a.i a.base a.width 0) z (chunk_start a.set.n a.set.ids.now a.i a.base a.width c.requires.0)
+    subst (Chunked a.set.colors.n a.set.ids.now a.i a.base a.width 0) z (chunk_start a.set.colors.n a.set.ids.now a.i a.base a.width c.requires.0)
 
 pub returns-then-base-width : goal.returns-then-base-width
 returns-then-base-width c =
     let a = c.args in
-    chunk_end a.set.n a.set.ids.now a.i a.base a.width c.loop-k.word (a.i + c.loop-k.k) c.loop-k.invariant c.requires.2 (λ h. rw (← id_at a.set.ids.now a.i c.loop-k.k) c.if-base-width.true)
+    chunk_end a.set.colors.n a.set.ids.now a.i a.base a.width c.loop-k.word (a.i + c.loop-k.k) c.loop-k.invariant c.requires.2 (λ h. rw (← id_at a.set.ids.now a.i c.loop-k.k) c.if-base-width.true)
 
 inside : (c : Else-base-width) → c.args.i + c.loop-k.k < length c.args.set.ids.now
 inside c = omega (arith, c.loop-k-test.true, count_from c.args.set.ids.now c.args.i)
@@ -40,10 +40,10 @@ inside c = omega (arith, c.loop-k-test.true, count_from c.args.set.ids.now c.arg
 above : (c : Else-base-width) → c.args.base ≤ get_or (from_place c.args.set.ids.now c.args.i) c.loop-k.k 0
 above c =
     let a = c.args in
-    omega (arith, c.loop-k.invariant.low, id_at a.set.ids.now a.i c.loop-k.k, chunk_above a.set.n a.set.ids.now a.i a.base a.width c.loop-k.word (a.i + c.loop-k.k) c.loop-k.invariant (inside c))
+    omega (arith, c.loop-k.invariant.low, id_at a.set.ids.now a.i c.loop-k.k, chunk_above a.set.colors.n a.set.ids.now a.i a.base a.width c.loop-k.word (a.i + c.loop-k.k) c.loop-k.invariant (inside c))
 
 next : (c : Else-base-width)
-    → Chunked c.args.set.n c.args.set.ids.now c.args.i c.args.base c.args.width
+    → Chunked c.args.set.colors.n c.args.set.ids.now c.args.i c.args.base c.args.width
     (c.loop-k.word + 1 * 2 ^ (get_or (from_place c.args.set.ids.now c.args.i) c.loop-k.k 0 - c.args.base) % 2 ^ 64) (c.args.i + (c.loop-k.k + 1))
 next c =
     let a = c.args in
@@ -52,7 +52,7 @@ next c =
     let n : k + 1 ≡ a.i + (c.loop-k.k + 1) = omega arith in
     let here : get_or ids k 0 < a.base + a.width = omega (arith, c.if-base-width.false, id_at ids a.i c.loop-k.k) in
     rw (shift_fits (get_or (from_place ids a.i) c.loop-k.k 0 - a.base) 1 1 (omega arith) (omega (arith, above c)), id_at ids a.i c.loop-k.k, ← n)
-    (chunk_next a.set.n ids a.i a.base a.width c.loop-k.word k c.loop-k.invariant (inside c) here)
+    (chunk_next a.set.colors.n ids a.i a.base a.width c.loop-k.word k c.loop-k.invariant (inside c) here)
 
 pub overflow_sub-word : goal.overflow_sub-word
 overflow_sub-word c = above (goal.at.overflow_sub-word c).Else-base-width
@@ -75,5 +75,5 @@ pub returns : goal.returns
 returns c =
     let a = c.args in
     let e : a.i + c.loop-k.k ≡ length a.set.ids.now = omega (arith, c.loop-k.invariant.inside, c.loop-k-test.false, count_from a.set.ids.now a.i) in
-    subst (λ (k : ℕ). MapOf a.set.n a.set.ids.now a.i a.base a.width (record { word = c.loop-k.word; next = k })) e
-    (chunk_end a.set.n a.set.ids.now a.i a.base a.width c.loop-k.word (a.i + c.loop-k.k) c.loop-k.invariant c.requires.2 (λ h. absurd (omega (arith, e))))
+    subst (λ (k : ℕ). MapOf a.set.colors.n a.set.ids.now a.i a.base a.width (record { word = c.loop-k.word; next = k })) e
+    (chunk_end a.set.colors.n a.set.ids.now a.i a.base a.width c.loop-k.word (a.i + c.loop-k.k) c.loop-k.invariant c.requires.2 (λ h. absurd (omega (arith, e))))

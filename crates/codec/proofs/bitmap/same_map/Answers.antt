@@ -41,34 +41,34 @@ module _ (bytes : List ℕ) (at N : ℕ) (ids : List ℕ) (i base : ℕ) (stands
 pub returns-then-source-at : goal.returns-then-source-at
 returns-then-source-at c =
     let a = c.args in
-    λ rest e. omega (arith, length-drop a.at (bits_of a.source.bytes.now), length_bits a.source.bytes.now, ap length e ∙ length-append (map_bits 0 a.set.n a.set.ids.now) rest, length_map_bits a.set.n 0 a.set.ids.now)
+    λ rest e. omega (arith, length-drop a.at (bits_of a.source.bytes.now), length_bits a.source.bytes.now, ap length e ∙ length-append (map_bits 0 a.set.colors.n a.set.ids.now) rest, length_map_bits a.set.colors.n 0 a.set.ids.now)
 
 pub loop-base-init : goal.loop-base-init
 loop-base-init c =
     let a = c.args in
     let z : a.at ≡ a.at + 0 = omega arith in
-    ([], mapping_start a.set.n a.set.ids.now a.set.within, ap (λ (k : ℕ). drop k (bits_of a.source.bytes.now)) z)
+    ([], mapping_start a.set.colors.n a.set.ids.now a.set.within, ap (λ (k : ℕ). drop k (bits_of a.source.bytes.now)) z)
 
 pub returns-then-bits_at-c : goal.returns-then-bits_at-c
 returns-then-bits_at-c c =
     let a = c.args in
-    λ rest e. c.if-bits_at-c.true (c.bits_at.ensures.0 ∙ mapping_read a.set.n a.set.ids.now c.loop-base.i c.loop-base.base c.loop-base.invariant.0 c.loop-base.invariant.1 c.chunk_width-width.result c.map_chunk-c.result c.map_chunk-c.ensures _ _ rest c.loop-base.invariant.2 e)
+    λ rest e. c.if-bits_at-c.true (c.bits_at.ensures.0 ∙ mapping_read a.set.colors.n a.set.ids.now c.loop-base.i c.loop-base.base c.loop-base.invariant.0 c.loop-base.invariant.1 c.chunk_width-width.result c.map_chunk-c.result c.map_chunk-c.ensures _ _ rest c.loop-base.invariant.2 e)
 
 pub loop-base-preserved : goal.loop-base-preserved
 loop-base-preserved c =
     let a = c.args in
     let whole : c.loop-base.base + c.chunk_width-width.result ≡ c.loop-base.base + 32 = omega (arith, c.chunk_width-width.ensures) in
-    subst (Stands a.source.bytes.now a.at a.set.n a.set.ids.now c.map_chunk-c.result.next) whole
-    (one_more a.source.bytes.now a.at a.set.n a.set.ids.now c.loop-base.i c.loop-base.base c.loop-base.invariant c.chunk_width-width.result c.map_chunk-c.result c.map_chunk-c.ensures (omega (arith, c.chunk_width-width.ensures)) (sym c.bits_at.ensures.0 ∙ c.if-bits_at-c.false))
+    subst (Stands a.source.bytes.now a.at a.set.colors.n a.set.ids.now c.map_chunk-c.result.next) whole
+    (one_more a.source.bytes.now a.at a.set.colors.n a.set.ids.now c.loop-base.i c.loop-base.base c.loop-base.invariant c.chunk_width-width.result c.map_chunk-c.result c.map_chunk-c.ensures (omega (arith, c.chunk_width-width.ensures)) (sym c.bits_at.ensures.0 ∙ c.if-bits_at-c.false))
 
 pub returns : goal.returns
 returns c =
     let a = c.args in
-    let inside : a.at + a.set.n ≤ 8 * length a.source.bytes.now = omega arith in
+    let inside : a.at + a.set.colors.n ≤ 8 * length a.source.bytes.now = omega arith in
     elim c.loop-base-test.branch [
-      | else-loop-base-test w ↦ all_stand a.source.bytes.now a.at a.set.n a.set.ids.now c.loop-base.i c.loop-base.base c.loop-base.invariant (omega (arith, w.loop-base-test.false)) inside
+      | else-loop-base-test w ↦ all_stand a.source.bytes.now a.at a.set.colors.n a.set.ids.now c.loop-base.i c.loop-base.base c.loop-base.invariant (omega (arith, w.loop-base-test.false)) inside
       | then-loop-base-test+else-bits_at-c+else-base-end-base-gt32 w ↦
-          all_stand a.source.bytes.now a.at a.set.n a.set.ids.now w.map_chunk-c.result.next (c.loop-base.base + w.chunk_width-width.result)
-          (one_more a.source.bytes.now a.at a.set.n a.set.ids.now c.loop-base.i c.loop-base.base c.loop-base.invariant w.chunk_width-width.result w.map_chunk-c.result w.map_chunk-c.ensures (omega (arith, w.chunk_width-width.ensures)) (sym w.bits_at.ensures.0 ∙ w.if-bits_at-c.false))
+          all_stand a.source.bytes.now a.at a.set.colors.n a.set.ids.now w.map_chunk-c.result.next (c.loop-base.base + w.chunk_width-width.result)
+          (one_more a.source.bytes.now a.at a.set.colors.n a.set.ids.now c.loop-base.i c.loop-base.base c.loop-base.invariant w.chunk_width-width.result w.map_chunk-c.result w.map_chunk-c.ensures (omega (arith, w.chunk_width-width.ensures)) (sym w.bits_at.ensures.0 ∙ w.if-bits_at-c.false))
           (omega (arith, w.chunk_width-width.ensures)) inside
     ]

@@ -9,4 +9,4 @@ use Rattle.codec.proofs.Laws.Bitmaps.{Mapping}
 use Rattle.codec.proofs.bitmap.same_map.Given as goal
 
 abbrev pub invariant-loop-base : goal.invariant-loop-base
-invariant-loop-base l = (done : List Bool) × Mapping l.set.n l.set.ids.now l.i l.base done × (drop l.at (bits_of l.source.bytes.now) ≡ done ++ drop (l.at + l.base) (bits_of l.source.bytes.now))
+invariant-loop-base l = (done : List Bool) × Mapping l.set.colors.n l.set.ids.now l.i l.base done × (drop l.at (bits_of l.source.bytes.now) ≡ done ++ drop (l.at + l.base) (bits_of l.source.bytes.now))

@@ -7,4 +7,4 @@ use Rattle.codec.proofs.Laws.Bitmaps.{Mapping}
 use Rattle.codec.proofs.bitmap.write_map.Given as goal
 
 abbrev pub invariant-loop-base : goal.invariant-loop-base
-invariant-loop-base l = (done : List Bool) × Mapping l.set.n l.set.ids.now l.i l.base done × Wrote l.initial.w l.w done × (l.w.out.ghost_name ≡ l.initial.w.out.ghost_name)
+invariant-loop-base l = (done : List Bool) × Mapping l.set.colors.n l.set.ids.now l.i l.base done × Wrote l.initial.w l.w done × (l.w.out.ghost_name ≡ l.initial.w.out.ghost_name)

@@ -22,7 +22,7 @@ loop-k-init c =
     rw (first, second) (record { skipped = c.requires; end = refl; rest = refl })
 
 -- the ids passed, and the id that a turn compares
-passed : (c : In-Some) → Skipped c.args.set.n c.args.set.ids.now c.args.c.i c.args.c.from c.in-Some.k
+passed : (c : In-Some) → Skipped c.args.set.colors.n c.args.set.ids.now c.args.c.i c.args.c.from c.in-Some.k
 passed c = let h = c.in-Some.ensures.steps in rw h.0.1.1 c.loop-k.invariant.skipped
 
 here : (c : In-Some) → NextOf c.args.set.ids.now (c.args.c.i + c.in-Some.k) c.in-Some.field-0-1.now (iter_rest (zip_second c.next.new.self))
@@ -32,7 +32,7 @@ pub returns-then-id-c : goal.returns-then-id-c
 returns-then-id-c c =
     let a = c.args in
     let at = (goal.at.returns-then-id-c c).In-Some in
-    (passed at, skipped_all a.set.n a.set.ids.now a.c.i a.c.from c.in-Some.k (passed at) (λ h x. c.if-id-c.true (sym (here at).is ∙ x)))
+    (passed at, skipped_all a.set.colors.n a.set.ids.now a.c.i a.c.from c.in-Some.k (passed at) (λ h x. c.if-id-c.true (sym (here at).is ∙ x)))
 
 pub loop-k-preserved : goal.loop-k-preserved
 loop-k-preserved c =
@@ -43,7 +43,7 @@ loop-k-preserved c =
     let n : (zip_first c.next.new.self).start ≡ c.in-Some.k + 1 = omega (arith, h.0.1.1, h.0.1.2) in
     let m : a.c.i + c.in-Some.k + 1 ≡ a.c.i + (c.in-Some.k + 1) = omega arith in
     rw n (record {
-      skipped = skipped_one a.set.n a.set.ids.now a.c.i a.c.from c.in-Some.k (passed at) next.inside (next.is ∙ c.if-id-c.false);
+      skipped = skipped_one a.set.colors.n a.set.ids.now a.c.i a.c.from c.in-Some.k (passed at) next.inside (next.is ∙ c.if-id-c.false);
       end = h.0.0 ∙ c.loop-k.invariant.end;
       rest = next.behind ∙ ap (λ (n : ℕ). drop n a.set.ids.now) m;
     })
@@ -59,5 +59,5 @@ returns c =
       | inr p ↦ omega (arith, so.skipped.inside, p.1.0, ap length so.rest, length-drop (a.c.i + k) a.set.ids.now)
     ]
     in
-    subst (λ (k : ℕ). Skipped a.set.n a.set.ids.now a.c.i a.c.from k × Within (a.c.from + k + 1) a.set.n (drop (a.c.i + k) a.set.ids.now)) last
-    (so.skipped, skipped_all a.set.n a.set.ids.now a.c.i a.c.from k so.skipped (λ h x. omega (arith, last)))
+    subst (λ (k : ℕ). Skipped a.set.colors.n a.set.ids.now a.c.i a.c.from k × Within (a.c.from + k + 1) a.set.colors.n (drop (a.c.i + k) a.set.ids.now)) last
+    (so.skipped, skipped_all a.set.colors.n a.set.ids.now a.c.i a.c.from k so.skipped (λ h x. omega (arith, last)))

@@ -11,7 +11,7 @@ abbrev pub invariant-loop-k : goal.invariant-loop-k
 invariant-loop-k l =
     let places = zip_first l.k-iterator in
     record {
-      skipped : Skipped l.set.n l.set.ids.now l.c.i l.c.from places.start;
+      skipped : Skipped l.set.colors.n l.set.ids.now l.c.i l.c.from places.start;
       end : places.end ≡ l.left;
       rest : iter_rest (zip_second l.k-iterator) ≡ drop (l.c.i + places.start) l.set.ids.now;
     }

@@ -9,21 +9,21 @@ use Rattle.codec.proofs.gaps.skip_present.Goals as goal
 pub loop-eight-init : goal.loop-eight-init
 loop-eight-init c =
     let a = c.args in
-    skipped_none a.set.n a.set.ids.now a.c.i a.c.from c.requires
+    skipped_none a.set.colors.n a.set.ids.now a.c.i a.c.from c.requires
 
 pub returns-then-set-c : goal.returns-then-set-c
 returns-then-set-c c =
     let a = c.args in
-    counted_all a.set.n a.set.ids.now a.c.i a.c.from (8 * c.loop-eight.eight) c.loop-eight.invariant (omega arith) c.if-set-c.true c.count_up.result c.count_up.ensures.0
+    counted_all a.set.colors.n a.set.ids.now a.c.i a.c.from (8 * c.loop-eight.eight) c.loop-eight.invariant (omega arith) c.if-set-c.true c.count_up.result c.count_up.ensures.0
 
 pub loop-eight-preserved : goal.loop-eight-preserved
 loop-eight-preserved c =
     let a = c.args in
     let e : 8 * c.loop-eight.eight + 8 ≡ 8 * (c.loop-eight.eight + 1) = omega arith in
-    subst (Skipped a.set.n a.set.ids.now a.c.i a.c.from) e (skipped_eight a.set.n a.set.ids.now a.c.i a.c.from (8 * c.loop-eight.eight) c.loop-eight.invariant (omega arith) c.if-set-c.false)
+    subst (Skipped a.set.colors.n a.set.ids.now a.c.i a.c.from) e (skipped_eight a.set.colors.n a.set.ids.now a.c.i a.c.from (8 * c.loop-eight.eight) c.loop-eight.invariant (omega arith) c.if-set-c.false)
 
 pub skip_last-requires : goal.skip_last-requires
 skip_last-requires c =
     let a = c.args in
     let e : 8 * c.loop-eight.eight ≡ (length a.set.ids.now - a.c.i) / 8 * 8 = omega arith in
-    subst (Skipped a.set.n a.set.ids.now a.c.i a.c.from) e c.loop-eight.invariant
+    subst (Skipped a.set.colors.n a.set.ids.now a.c.i a.c.from) e c.loop-eight.invariant

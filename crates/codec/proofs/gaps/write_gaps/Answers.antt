@@ -11,14 +11,14 @@ use Rattle.codec.proofs.Laws.Writers.{wrote_none, wrote_then, ready_after}
 use Rattle.codec.proofs.gaps.write_gaps.Goals as goal
 
 pub loop-id-init : goal.loop-id-init
-loop-id-init g c = let s = c.args.set in ([], coding_start g.C.CodedIds.dense s.n s.ids.now s.within, wrote_none c.args.w.now _ c.requires, refl)
+loop-id-init g c = let s = c.args.set in ([], coding_start g.C.CodedIds.dense s.colors.n s.ids.now s.within, wrote_none c.args.w.now _ c.requires, refl)
 
 pub write_delta-requires : goal.write_delta-requires
 write_delta-requires g c =
     let a = c.args in
     let inv = c.loop-id.invariant in (
       omega (arith, c.in-Some.ensures.1, c.in-Some.ensures.2),
-      ready_after a.w.now c.loop-id.w inv.0 inv.2 _ (length (delta (c.in-Some.field-0.id - c.loop-id.c.from))) c.requires (coding_room g.C.CodedIds.dense a.set.n a.set.ids.now c.loop-id.c inv.0 inv.1 c.in-Some.field-0.id c.in-Some.field-0.next c.in-Some.ensures),
+      ready_after a.w.now c.loop-id.w inv.0 inv.2 _ (length (delta (c.in-Some.field-0.id - c.loop-id.c.from))) c.requires (coding_room g.C.CodedIds.dense a.set.colors.n a.set.ids.now c.loop-id.c inv.0 inv.1 c.in-Some.field-0.id c.in-Some.field-0.next c.in-Some.ensures),
     )
 
 pub loop-id-preserved : goal.loop-id-preserved
@@ -27,7 +27,7 @@ loop-id-preserved g c =
     let inv = c.loop-id.invariant in
     let v : ℕ = c.in-Some.field-0.id - c.loop-id.c.from in (
       inv.0 ++ delta v,
-      coding_next g.C.CodedIds.dense a.set.n a.set.ids.now c.loop-id.c inv.0 inv.1 c.in-Some.field-0.id c.in-Some.field-0.next c.in-Some.ensures,
+      coding_next g.C.CodedIds.dense a.set.colors.n a.set.ids.now c.loop-id.c inv.0 inv.1 c.in-Some.field-0.id c.in-Some.field-0.next c.in-Some.ensures,
       wrote_then a.w.now c.loop-id.w inv.0 inv.2 c.write_delta.new.w (delta v) c.write_delta.ensures.wrote,
       c.write_delta.ensures.same_reference ∙ inv.3,
     )
@@ -36,4 +36,4 @@ pub returns-clause-wrote : goal.returns-clause-wrote
 returns-clause-wrote g c =
     let a = c.args in
     let inv = c.loop-id.invariant in
-    subst (Wrote a.w.now c.loop-id.w) (sym (coding_end g.C.CodedIds.dense a.set.n a.set.ids.now c.loop-id.c inv.0 inv.1 c.in_default.ensures)) inv.2
+    subst (Wrote a.w.now c.loop-id.w) (sym (coding_end g.C.CodedIds.dense a.set.colors.n a.set.ids.now c.loop-id.c inv.0 inv.1 c.in_default.ensures)) inv.2

@@ -16,5 +16,5 @@ pub returns : goal.returns
 returns c =
     let s = c.in_ok-set.set in
     let len = c.payload_len-len.result in
-    let total = ap (λ (n : ℕ). n + len) c.varint_len.ensures.0 ∙ record_length_lem s.n s.ids.now len c.payload_len-len.ensures in
-    rw (← c.in_ok-set.ensures.taken.0, ← c.in_ok-set.ensures.taken.1) (ap (λ (n : ℕ). done (n ∷ [])) total ∙ sym (taken_length s.n s.ids.now s.some s.few s.within))
+    let total = ap (λ (n : ℕ). n + len) c.varint_len.ensures.0 ∙ record_length_lem s.colors.n s.ids.now len c.payload_len-len.ensures in
+    rw (← c.in_ok-set.ensures.taken.0, ← c.in_ok-set.ensures.taken.1) (ap (λ (n : ℕ). done (n ∷ [])) total ∙ sym (taken_length s.colors.n s.ids.now s.colors.some s.colors.few s.within))

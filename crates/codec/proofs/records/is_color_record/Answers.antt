@@ -17,7 +17,7 @@ pub returns-in_default-read_varint_len : goal.returns-in_default-read_varint_len
 returns-in_default-read_varint_len c =
     let s = c.in-Ok.set in
     let input = c.args.input.now in
-    rw (← c.in-Ok.ensures.taken.0, ← c.in-Ok.ensures.taken.1) (sym (taken_is s.n s.ids.now s.some s.few s.within input ∙ gives_refused s.n s.ids.now input c.in_default-read_varint_len.field-0 c.in_default-read_varint_len.ensures))
+    rw (← c.in-Ok.ensures.taken.0, ← c.in-Ok.ensures.taken.1) (sym (taken_is s.colors.n s.ids.now s.colors.some s.colors.few s.within input ∙ gives_refused s.colors.n s.ids.now input c.in_default-read_varint_len.field-0 c.in_default-read_varint_len.ensures))
 
 pub overflow_sub-input : goal.overflow_sub-input
 overflow_sub-input c = let p = c.in-Ok-read_varint_len.field-0 in (prefix_behind c.args.input.now p.value p.len c.in-Ok-read_varint_len.ensures).1
@@ -29,7 +29,7 @@ returns-then-input-len c =
     let p = c.in-Ok-read_varint_len.field-0 in
     let prefixed = prefix_behind input p.value p.len c.in-Ok-read_varint_len.ensures in
     rw (← c.in-Ok.ensures.taken.0, ← c.in-Ok.ensures.taken.1)
-    (sym (taken_is s.n s.ids.now s.some s.few s.within input ∙ gives_cut s.n s.ids.now input p.value (drop p.len input) prefixed.0 (omega (arith, length-drop p.len input))))
+    (sym (taken_is s.colors.n s.ids.now s.colors.some s.colors.few s.within input ∙ gives_cut s.colors.n s.ids.now input p.value (drop p.len input) prefixed.0 (omega (arith, length-drop p.len input))))
 
 pub slice_bounds-same_set-end : goal.slice_bounds-same_set-end
 slice_bounds-same_set-end c =
@@ -49,5 +49,5 @@ returns c =
     let prefixed = prefix_behind input p.value p.len c.in-Ok-read_varint_len.ensures in
     let n : p.len + p.value - p.len ≡ p.value = omega arith in
     rw (← c.in-Ok.ensures.taken.0, ← c.in-Ok.ensures.taken.1)
-    (c.same_set.ensures ∙ ap (λ (m : ℕ). gives_set (decode_set s.n (take m (drop p.len input))) s.ids.now) n
-    ∙ sym (taken_is s.n s.ids.now s.some s.few s.within input ∙ gives_payload s.n s.ids.now input p.value (drop p.len input) prefixed.0 (omega (arith, length-drop p.len input))))
+    (c.same_set.ensures ∙ ap (λ (m : ℕ). gives_set (decode_set s.colors.n (take m (drop p.len input))) s.ids.now) n
+    ∙ sym (taken_is s.colors.n s.ids.now s.colors.some s.colors.few s.within input ∙ gives_payload s.colors.n s.ids.now input p.value (drop p.len input) prefixed.0 (omega (arith, length-drop p.len input))))

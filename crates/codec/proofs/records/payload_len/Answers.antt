@@ -13,4 +13,4 @@ rounded n = omega arith
 pub returns : goal.returns
 returns c =
     let a = c.args in
-    c.div_ceil.ensures ∙ rounded c.set_len.result ∙ ap bytes_for c.set_len.ensures.0 ∙ sym (length_payload a.set.n a.set.ids.now)
+    c.div_ceil.ensures ∙ rounded c.set_len.result ∙ ap bytes_for c.set_len.ensures.0 ∙ sym (length_payload a.set.colors.n a.set.ids.now)

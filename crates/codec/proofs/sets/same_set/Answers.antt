@@ -22,14 +22,14 @@ same_rest {r} {v} {w} {x} {y} p q = cc
 pub returns-in_default : goal.returns-in_default
 returns-in_default c =
     let a = c.args in
-    sym (gives_other (decode_set a.set.n a.payload.now) a.set.ids.now (λ e.
-    let b = set_begins a.set.n a.set.ids.now a.payload.now e in
-    omega (arith, c.in_default.ensures _ _ b.1, few_ids a.set.n a.set.ids.now a.set.within)))
+    sym (gives_other (decode_set a.set.colors.n a.payload.now) a.set.ids.now (λ e.
+    let b = set_begins a.set.colors.n a.set.ids.now a.payload.now e in
+    omega (arith, c.in_default.ensures _ _ b.1, few_ids a.set.colors.n a.set.ids.now a.set.within)))
 
 pub returns-then-value-set : goal.returns-then-value-set
 returns-then-value-set c =
     let a = c.args in
-    sym (gives_other (decode_set a.set.n a.payload.now) a.set.ids.now (λ e. c.if-value-set.true (same_value c.in-Some.ensures.0 (set_begins a.set.n a.set.ids.now a.payload.now e).1)))
+    sym (gives_other (decode_set a.set.colors.n a.payload.now) a.set.ids.now (λ e. c.if-value-set.true (same_value c.in-Some.ensures.0 (set_begins a.set.colors.n a.set.ids.now a.payload.now e).1)))
 
 pub same_body-requires : goal.same_body-requires
 same_body-requires c =
@@ -38,8 +38,8 @@ same_body-requires c =
 pub returns-in_default-same_body : goal.returns-in_default-same_body
 returns-in_default-same_body c =
     let a = c.args in
-    sym (gives_other (decode_set a.set.n a.payload.now) a.set.ids.now (λ e.
-    let s = set_begins a.set.n a.set.ids.now a.payload.now e in
+    sym (gives_other (decode_set a.set.colors.n a.payload.now) a.set.ids.now (λ e.
+    let s = set_begins a.set.colors.n a.set.ids.now a.payload.now e in
     (rw c.new-source.ensures at c.in_default-same_body.ensures) s.0 (same_rest c.in-Some.ensures.0 s.1)))
 
 pub is_padding-requires : goal.is_padding-requires
@@ -50,4 +50,4 @@ returns c =
     let a = c.args in
     let v : c.in-Some.field-0.value ≡ length a.set.ids.now = omega arith in
     let at = c.in-Some.field-0.next in
-    (rw c.new-source.ensures at c.is_padding.ensures) ∙ sym (gives_same a.set.n a.set.ids.now a.payload.now at c.in-Some-same_body.behind a.set.within (c.in-Some.ensures.0 ∙ ap (λ (n : ℕ). got n (drop at (bits_of a.payload.now))) v) (rw c.new-source.ensures at c.in-Some-same_body.ensures).0)
+    (rw c.new-source.ensures at c.is_padding.ensures) ∙ sym (gives_same a.set.colors.n a.set.ids.now a.payload.now at c.in-Some-same_body.behind a.set.within (c.in-Some.ensures.0 ∙ ap (λ (n : ℕ). got n (drop at (bits_of a.payload.now))) v) (rw c.new-source.ensures at c.in-Some-same_body.ensures).0)
