@@ -8,19 +8,17 @@ mod recorded; // a recorded call, and what it must answer
 mod operations; // the call of each operation
 mod files; // which record file is the beginning of which
 
-use shell::inputs;
 use std::alloc::Global;
+use std::io::Read;
 use std::rt::Files;
 use std::{fs, io};
 
 // How many bytes of a file are read.
-const MOST_BYTES: usize = 262144;
+const MOST_BYTES: u64 = 262144;
 
 fn read_file(rt: &impl Files, alloc: Global, name: &str) -> io::Result<Vec<u8>> {
-    let mut text = vec![in alloc; 0u8; MOST_BYTES]?;
-    let mut file = fs::open(rt, name)?;
-    let count = inputs::read_full(&mut file, &mut text)?;
-    text.truncate(count);
+    let mut text = Vec::new(alloc);
+    fs::open(rt, name)?.take(MOST_BYTES).read_to_end(&mut text)?;
     Ok(text)
 }
 

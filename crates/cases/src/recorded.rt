@@ -2,7 +2,6 @@
 ghost use Rattle.std.specs.Prelude.{◌≡◌, IfOk, vec_len};
 
 use crate::numbers::{MOST_ITEMS, Narrow, fitting, list_of, numbers_of};
-use crate::operations;
 use shell::fields::split_front;
 use std::alloc::{AllocError, Global};
 use std::io;
@@ -159,7 +158,7 @@ impl<'a> Recorded<'a> {
 fn agrees(alloc: Global, line: &[u8]) -> Result<bool, AllocError> {
     let numbers = numbers_of(alloc, line)?;
     match Recorded::of(numbers.as_slice()) {
-        Some(line) => operations::agrees(alloc, &line),
+        Some(line) => line.is_answered(alloc),
         None => Ok(false),
     }
 }
