@@ -1,11 +1,12 @@
 // A piece behind an output: the piece's first vertex is the output's last. The output is a lent buffer and how many runs it has, as the C
 // interface hands it over: the libraries have no heap.
 ghost use Rattle.std.specs.Prelude.{◌≡◌, ◌+◌, ◌-◌, ◌<◌, ◌≤◌, length, take, drop};
+ghost use Rattle.std.specs.Int.{from_bool};
 ghost use Rattle.std.proofs.Math.Seq.{paste};
 ghost use Rattle.runs.specs.Colours.{last_coord};
 ghost use Rattle.runs.specs.Inside.Oriented.{list_of};
-ghost use Rattle.runs.specs.Append.{of_appended, shifted, skip, append_runs, bad_counts, joinable, result_into, append_into};
-ghost use Rattle.runs.specs.Inside.Pieces.{Admitted};
+ghost use Rattle.runs.specs.Append.{of_appended, shifted, append_runs, bad_counts, joinable, result_into, append_into};
+ghost use Rattle.runs.specs.Inside.Pieces.{Admitted, drops_first};
 
 use crate::oriented::{Oriented, Shifted};
 use crate::{orders, words};
@@ -30,29 +31,28 @@ fn bad_counts(a: u32, b: u32) -> bool
 fn is_joinable(runs: &[u64], n: u32) -> bool
     ensures { result ≡ joinable n runs.now }
 {
-    !runs.is_empty() && orders::is_steady(runs, n) && words::offset(runs[runs.len() - 1]) < n
+    orders::is_steady(runs, n) && runs.last().is_some_and(|run| words::offset(*run) < n)
 }
 
-// How many runs of the piece are dropped behind a list: 1 where its first coordinate is the list's last.
-#[tactic(auto, using(crate::proofs::Laws::Append::skip_yes, crate::proofs::Laws::Append::skip_no))]
-fn skip_of(runs: &[u64], piece: &Oriented) -> usize
+// Whether the piece's first run is dropped behind a list: where its coordinate is the list's last.
+fn drops_first(runs: &[u64], piece: &Oriented) -> bool
     requires { 0 < length piece.now.runs.now }
-    ensures { result ≡ skip (last_coord runs.now) (list_of piece.now) }
+    ensures { result ≡ drops_first (last_coord runs.now) (list_of piece.now) }
 {
     let last = orders::last_coordinate(runs);
     let first = words::coordinate(piece.run_at(0));
-    usize::from(last == first)
+    last == first
 }
 
-// The piece's runs from `from` on behind the output's.
-fn fill_appended(out: &mut [u64], used: usize, piece: &Shifted, from: usize)
-    requires { (from ≤ 1) × (0 < length piece.now.list.runs.now) × (used + (length piece.now.list.runs.now - from) ≤ length out.old) }
-    ensures { out.new ≡ paste out.old used (shifted piece.now.shift (drop from (list_of piece.now.list))) (length piece.now.list.runs.now - from) }
+// The piece's runs behind the output's, without its first where that is dropped.
+fn fill_appended(out: &mut [u64], used: usize, piece: &Shifted, drops: bool)
+    requires { (0 < length piece.now.list.runs.now) × (used + (length piece.now.list.runs.now - from_bool drops) ≤ length out.old) }
+    ensures { out.new ≡ paste out.old used (shifted piece.now.shift (drop (from_bool drops) (list_of piece.now.list))) (length piece.now.list.runs.now - from_bool drops) }
 {
-    if from == 0 {
-        piece.fill(&mut out[used..]);
-    } else {
+    if drops {
         piece.fill_rest(&mut out[used..]);
+    } else {
+        piece.fill(&mut out[used..]);
     }
 }
 
@@ -66,8 +66,8 @@ fn append_admitted(
     requires { Admitted out.old used out_count piece.now.runs.now piece.now.n }
     ensures { (of_appended result, out.new) ≡ result_into (append_runs (take used out.old) out_count piece.now.runs.now piece.now.n piece.now.reversed) (out_count + piece.now.n - 1) out.old }
 {
-    let from = skip_of(&out[..used], piece);
-    let total = used + (piece.runs.len() - from);
+    let drops = drops_first(&out[..used], piece);
+    let total = used + (piece.runs.len() - usize::from(drops));
     if out.len() < total {
         return Err(Refusal::Space);
     }
@@ -75,7 +75,7 @@ fn append_admitted(
         list: *piece,
         shift: out_count - 1,
     };
-    fill_appended(out, used, &moved, from);
+    fill_appended(out, used, &moved, drops);
     Ok(Appended {
         runs: total,
         vertices: out_count + (piece.n - 1),

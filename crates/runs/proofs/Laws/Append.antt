@@ -5,6 +5,7 @@ use mathlib.Core.Bool.{Bool, true, false, not, ◌||◌}
 use mathlib.Core.List.{List, [], ◌∷◌, ◌++◌}
 use native.Mathlib.Omega.{arith}
 use borrow.Author.Tests.{lt-ltb, le-ltb, eq-eqb, ne_eqb, eqb-false, ltb-true, ltb-false}
+use Rattle.std.specs.Int.{from_bool}
 use lib.ListN.{length, take, drop, get_or, length-append, length-drop}
 use lib.Seq.{length-take-le, paste, take_all}
 use lib.Dec.{ltb, eqb}
@@ -19,7 +20,7 @@ use Rattle.runs.specs.Orders.{most_vertices, sharp}
 use Rattle.runs.specs.Inside.Lists.{Steady}
 use Rattle.runs.specs.Reverse.{oriented}
 use Rattle.runs.specs.Append.{shifted, skip, appendix, append_runs, joinable, bad_counts, result_into, append_into}
-use Rattle.runs.specs.Inside.Pieces.{Admitted}
+use Rattle.runs.specs.Inside.Pieces.{Admitted, drops_first}
 use Rattle.runs.proofs.Laws.Orders.{sharp_yes, sharp_steady, steady_yes}
 use Rattle.runs.proofs.Laws.Reverse.{oriented_long}
 
@@ -87,13 +88,14 @@ pub skip_no : (c : ℕ) (piece : List ℕ) → (c ≡ first_coord piece → ⊥)
 unfolding skip
 skip_no c piece e = when_no _ _ _ (ne_eqb c (first_coord piece) e)
 
-pub skip_le : (c : ℕ) (piece : List ℕ) → skip c piece ≤ 1
+pub skip_is : (c : ℕ) (piece : List ℕ) (drops : Bool) → drops ≡ drops_first c piece → from_bool drops ≡ skip c piece
 unfolding skip ◌when◌else◌
-skip_le c piece = go (eqb c (first_coord piece))
-  where
-    go : (t : Bool) → (◌when◌else◌ {A = ℕ} 1 t 0) ≤ 1
-    go true = omega arith
-    go false = omega arith
+skip_is c piece true e = ap (λ (t : Bool). ◌when◌else◌ {A = ℕ} 1 t 0) e
+skip_is c piece false e = ap (λ (t : Bool). ◌when◌else◌ {A = ℕ} 1 t 0) e
+
+pub one_bit : (b : Bool) → from_bool b ≤ 1
+one_bit true = omega arith
+one_bit false = omega arith
 
 module _ (out : List ℕ) (used a : ℕ) (piece : List ℕ) (b : ℕ) (r : Bool) where
   pub append_3 : length out < used → ◌≡◌ {A = Answer × List ℕ} (refused 3, out) (append_into out used a piece b r)

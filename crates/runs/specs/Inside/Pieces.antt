@@ -1,5 +1,6 @@
 -- A piece and an output that append admits.
-use Rattle.std.specs.Prelude.{ℕ, ◌+◌, ◌-◌, ◌≤◌, ◌<◌, List, length}
+use Rattle.std.specs.Prelude.{ℕ, ◌+◌, ◌-◌, ◌≤◌, ◌<◌, Bool, List, length, eqb}
+use Rattle.runs.specs.Colours.{first_coord}
 use Rattle.runs.specs.Orders.{most_vertices}
 use Rattle.runs.specs.Inside.Lists.{Taken}
 
@@ -12,3 +13,7 @@ pub record Admitted (out : List ℕ) (used a : ℕ) (piece : List ℕ) (b : ℕ)
   pub sum : a + b - 1 ≤ most_vertices
   pub first : 0 < length piece
   pub taken : Taken b piece
+
+-- whether a piece's first run is dropped behind an output that ends on coordinate c
+abbrev pub drops_first : ℕ → List ℕ → Bool
+drops_first c piece = eqb c (first_coord piece)
