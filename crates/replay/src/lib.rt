@@ -1,4 +1,5 @@
-// Runs a list of calls, six numbers each, through the store's methods: demand 3 of running code.
+// Runs a list of calls, six numbers each, through the store's methods: what a session of them leaves is what the plain
+// store's run of them tells.
 // `as` stands where no `From` leads, from u32 to usize.
 #![tactic(auto)]
 
@@ -6,7 +7,7 @@ ghost use Rattle.std.specs.Prelude.{◌≡◌, ◌+◌, ◌*◌, ◌≤◌, leng
 ghost use Rattle.store.specs.State.{bufs, of_answer};
 ghost use Rattle.store.specs.Demand.{store_step, seen};
 ghost use Rattle.replay.specs.Tape.{value_of, part, head_at, call_of, tape, replay_step, session_claim};
-ghost use Rattle.replay.specs.Inside.{lent_by, room_by};
+ghost use Rattle.replay.specs.Inside.{lent_by, room_by, bufs_in, same_references};
 
 use base::{Refusal, code_of};
 use store::state::{Store, Told, Way};
@@ -138,56 +139,103 @@ fn head_at(calls: &[u32], i: usize) -> Head
     }
 }
 
-// One call, with an output of as many places as it is lent. The buffers are lent one by one, as the public call gets
-// them: of a struct behind a `&mut` no two could be lent beside one another.
-fn one(
-    s: Store,
-    call: Call,
-    ids: &[u32],
-    pieces: &[u64],
-    records: &mut [u8],
-    index: &mut [u64],
-    opened: &mut [u64],
-    held: &mut [u64],
-    runs: &mut [u8],
-    table: &mut [u64],
-    out: &mut [u32],
-) -> Told<Store, u64>
-    requires { room_by call (length out.old) ≡ length out.old }
-    ensures { (seen (of_answer result.answer) out.new, result.state, bufs records.new index.new opened.new held.new runs.new table.new)
-        ≡ store_step s (bufs records.old index.old opened.old held.old runs.old table.old) (lent_by call ids.now pieces.now out.old) }
-{
-    match call {
-        Call::Add {
-            number,
-            from,
-            count,
-        } => {
-            let set = part(ids, from, count);
-            s.add(number, set, records, index, opened, held, runs, table)
+// The store's buffers, lent anew to each call.
+#[derive(Drop)]
+struct Buffers<'a> {
+    records: &'a mut [u8],
+    index: &'a mut [u64],
+    opened: &'a mut [u64],
+    held: &'a mut [u64],
+    runs: &'a mut [u8],
+    table: &'a mut [u64],
+}
+
+impl Buffers<'_> {
+    // One call, with an output of as many places as it is lent.
+    fn one(
+        &mut self,
+        s: Store,
+        call: Call,
+        ids: &[u32],
+        pieces: &[u64],
+        out: &mut [u32],
+    ) -> Told<Store, u64>
+        requires { room_by call (length out.old) ≡ length out.old }
+        ensures same_references { same_references self.new self.old }
+        ensures step { (seen (of_answer result.answer) out.new, result.state, bufs_in self.new) ≡ store_step s (bufs_in self.old) (lent_by call ids.now pieces.now out.old) }
+    {
+        // each by itself first: no rule covers a call that is lent a `&mut [T]` of a struct behind a `&mut`, and then
+        // another of its fields
+        let records = &mut *self.records;
+        let index = &mut *self.index;
+        let opened = &mut *self.opened;
+        let held = &mut *self.held;
+        let runs = &mut *self.runs;
+        let table = &mut *self.table;
+        match call {
+            Call::Add {
+                number,
+                from,
+                count,
+            } => {
+                let set = part(ids, from, count);
+                s.add(number, set, records, index, opened, held, runs, table)
+            }
+            Call::Join {
+                number,
+                n,
+                reversed,
+                from,
+                count,
+            } => {
+                let piece = part(pieces, from, count);
+                s.join(
+                    number, n, reversed, piece, records, index, opened, held, runs, table,
+                )
+            }
+            Call::Close { number, way } => {
+                s.close(number, way, records, index, opened, held, runs, table)
+            }
+            Call::Show {
+                unitig,
+                vertex,
+                count: _,
+            } => s.show(
+                unitig, vertex, out, records, index, opened, held, runs, table,
+            ),
         }
-        Call::Join {
-            number,
-            n,
-            reversed,
-            from,
-            count,
-        } => {
-            let piece = part(pieces, from, count);
-            s.join(
-                number, n, reversed, piece, records, index, opened, held, runs, table,
-            )
+    }
+
+    // As many calls as there are, and as there is room for what is told of them.
+    fn all(
+        &mut self,
+        begun: Store,
+        calls: &[u32],
+        ids: &[u32],
+        pieces: &[u64],
+        refusals: &mut [u32],
+        answers: &mut [u64],
+        shown: &mut [u32],
+    ) -> Store
+        ensures same_references { same_references self.new self.old }
+        ensures run { tape result (bufs_in self.new) refusals.new answers.new shown.new ≡ replay_step begun (bufs_in self.old) calls.now ids.now pieces.now refusals.old answers.old shown.old }
+    {
+        let n = (calls.len() / 6).min(refusals.len().min(answers.len()));
+        let mut s = begun;
+        let mut at: usize = 0;
+        // by the number of the turn, since it writes to two lent lists: the two zipped by `iter_mut` would say nothing of
+        // what they hold afterwards
+        for i in 0..n {
+            let call = Call::from(head_at(calls, i));
+            let room = call.room(shown.len() - at);
+            let end = at + room;
+            let told = self.one(s, call, ids, pieces, &mut shown[at..end]);
+            s = told.state;
+            refusals[i] = code_of(&told.answer);
+            answers[i] = value_of(told.answer);
+            at = end;
         }
-        Call::Close { number, way } => {
-            s.close(number, way, records, index, opened, held, runs, table)
-        }
-        Call::Show {
-            unitig,
-            vertex,
-            count: _,
-        } => s.show(
-            unitig, vertex, out, records, index, opened, held, runs, table,
-        ),
+        s
     }
 }
 
@@ -210,34 +258,15 @@ pub fn replay(
     ensures { tape result (bufs records.new index.new opened.new held.new runs.new table.new) refusals.new answers.new shown.new
         ≡ replay_step begun (bufs records.old index.old opened.old held.old runs.old table.old) calls.now ids.now pieces.now refusals.old answers.old shown.old }
 {
-    let n = (calls.len() / 6).min(refusals.len().min(answers.len()));
-    let mut s = begun;
-    let mut at: usize = 0;
-    // by the number of the turn, since it writes to two lent lists: the two zipped by `iter_mut` would say nothing of
-    // what they hold afterwards
-    for i in 0..n {
-        let call = Call::from(head_at(calls, i));
-        let room = call.room(shown.len() - at);
-        let end = at + room;
-        let told = one(
-            s,
-            call,
-            ids,
-            pieces,
-            records,
-            index,
-            opened,
-            held,
-            runs,
-            table,
-            &mut shown[at..end],
-        );
-        s = told.state;
-        refusals[i] = code_of(&told.answer);
-        answers[i] = value_of(told.answer);
-        at = end;
-    }
-    s
+    let mut buffers = Buffers {
+        records,
+        index,
+        opened,
+        held,
+        runs,
+        table,
+    };
+    buffers.all(begun, calls, ids, pieces, refusals, answers, shown)
 }
 
 // A store from its start on.
