@@ -1,6 +1,5 @@
 // The store, the memory that it works in, and its calls over as much of it as start said.
 use crate::replies::Trouble;
-use base::Refusal;
 use shell::fields::{front, split_front};
 use shell::lengths::Lengths;
 use shell::reasons::Fault;
@@ -60,27 +59,40 @@ impl Memory {
         Ok(())
     }
 
-    // The state that a call hands back is kept, refused or not.
-    fn told(&mut self, told: Told<Store, u64>) -> Result<u64, Refusal> {
-        self.store = Some(told.state);
-        told.answer
-    }
-
-    pub(crate) fn add(&mut self, number: u32, ids: &[u32]) -> Result<u64, Trouble> {
+    // A call of the store over as much of each buffer as start said. The state that it hands back is kept, refused or not.
+    fn call<F>(&mut self, call: F) -> Result<u64, Trouble>
+    where
+        F: FnOnce(
+            Store,
+            &mut [u8],
+            &mut [u64],
+            &mut [u64],
+            &mut [u64],
+            &mut [u8],
+            &mut [u64],
+        ) -> Told<Store, u64>,
+        requires { F.IsAlwaysCallable call }
+    {
         let store = self.started()?;
         let cell = store.cell;
         let shared = store.shared;
-        let told = store.add(
-            number,
-            ids,
+        let told = call(
+            store,
             split_front(&mut self.records, cell.records.length).0,
             split_front(&mut self.index, cell.index).0,
-            front(&self.opened, cell.opened.length),
-            front(&self.held, cell.held.length),
-            front(&self.runs, shared.runs.length),
-            front(&self.table, shared.table),
+            split_front(&mut self.opened, cell.opened.length).0,
+            split_front(&mut self.held, cell.held.length).0,
+            split_front(&mut self.runs, shared.runs.length).0,
+            split_front(&mut self.table, shared.table).0,
         );
-        Ok(self.told(told)?)
+        self.store = Some(told.state);
+        Ok(told.answer?)
+    }
+
+    pub(crate) fn add(&mut self, number: u32, ids: &[u32]) -> Result<u64, Trouble> {
+        self.call(|store, records, index, opened, held, runs, table| {
+            store.add(number, ids, records, index, opened, held, runs, table)
+        })
     }
 
     pub(crate) fn join(
@@ -90,39 +102,17 @@ impl Memory {
         reversed: bool,
         piece: &[u64],
     ) -> Result<u64, Trouble> {
-        let store = self.started()?;
-        let cell = store.cell;
-        let shared = store.shared;
-        let told = store.join(
-            number,
-            n,
-            reversed,
-            piece,
-            front(&self.records, cell.records.length),
-            front(&self.index, cell.index),
-            split_front(&mut self.opened, cell.opened.length).0,
-            split_front(&mut self.held, cell.held.length).0,
-            front(&self.runs, shared.runs.length),
-            front(&self.table, shared.table),
-        );
-        Ok(self.told(told)?)
+        self.call(|store, records, index, opened, held, runs, table| {
+            store.join(
+                number, n, reversed, piece, records, index, opened, held, runs, table,
+            )
+        })
     }
 
     pub(crate) fn close(&mut self, number: u32, way: Way) -> Result<u64, Trouble> {
-        let store = self.started()?;
-        let cell = store.cell;
-        let shared = store.shared;
-        let told = store.close(
-            number,
-            way,
-            front(&self.records, cell.records.length),
-            front(&self.index, cell.index),
-            front(&self.opened, cell.opened.length),
-            front(&self.held, cell.held.length),
-            split_front(&mut self.runs, shared.runs.length).0,
-            split_front(&mut self.table, shared.table).0,
-        );
-        Ok(self.told(told)?)
+        self.call(|store, records, index, opened, held, runs, table| {
+            store.close(number, way, records, index, opened, held, runs, table)
+        })
     }
 
     // Answers how many ids were given.
@@ -132,20 +122,10 @@ impl Memory {
         vertex: u32,
         ids: &mut [u32],
     ) -> Result<u64, Trouble> {
-        let store = self.started()?;
-        let cell = store.cell;
-        let shared = store.shared;
-        let told = store.show(
-            unitig,
-            vertex,
-            ids,
-            front(&self.records, cell.records.length),
-            front(&self.index, cell.index),
-            front(&self.opened, cell.opened.length),
-            front(&self.held, cell.held.length),
-            front(&self.runs, shared.runs.length),
-            front(&self.table, shared.table),
-        );
-        Ok(self.told(told)?)
+        self.call(|store, records, index, opened, held, runs, table| {
+            store.show(
+                unitig, vertex, ids, records, index, opened, held, runs, table,
+            )
+        })
     }
 }

@@ -1,7 +1,9 @@
 // Answers into a buffer, which goes out when it fills. The buffer is fixed, since the program allocates nothing, and the text is put there by the
 // proved functions of shell.
+use base::Refusal;
 use shell::fields::front;
-use shell::texts;
+use shell::reasons::Fault;
+use shell::{reasons, texts};
 use std::io;
 use std::io::{Stdout, Write};
 
@@ -38,6 +40,20 @@ impl Output {
     pub(crate) fn number(&mut self, n: u64) -> io::Result<()> {
         self.make_room()?;
         self.used = texts::put_decimal(n, self.used, &mut self.bytes);
+        Ok(())
+    }
+
+    // A refusal's number and its reason.
+    pub(crate) fn reason(&mut self, r: Refusal) -> io::Result<()> {
+        self.make_room()?;
+        self.used = reasons::put_reason(r, self.used, &mut self.bytes);
+        Ok(())
+    }
+
+    // What is wrong with a line.
+    pub(crate) fn fault(&mut self, f: Fault) -> io::Result<()> {
+        self.make_room()?;
+        self.used = reasons::put_fault(f, self.used, &mut self.bytes);
         Ok(())
     }
 

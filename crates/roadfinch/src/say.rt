@@ -6,7 +6,6 @@ use crate::replies::{Reply, Trouble, View};
 use crate::views;
 use base::Refusal;
 use shell::fields::front;
-use shell::reasons;
 use shell::reasons::Fault;
 use std::io;
 use store::state::Store;
@@ -24,7 +23,7 @@ fn listed(ids: &[u32], out: &mut Output) -> io::Result<()> {
 // "refused K reason"
 fn refused(r: Refusal, out: &mut Output) -> io::Result<()> {
     out.text(b"refused ")?;
-    out.used = reasons::put_reason(r, out.used, &mut out.bytes);
+    out.reason(r)?;
     out.text(b"\n")
 }
 
@@ -32,7 +31,7 @@ fn refused(r: Refusal, out: &mut Output) -> io::Result<()> {
 fn wrong(f: Fault, line: u64, out: &mut Output) -> io::Result<()> {
     out.named(b"error ", line)?;
     out.text(b": ")?;
-    out.used = reasons::put_fault(f, out.used, &mut out.bytes);
+    out.fault(f)?;
     out.text(b"\n")
 }
 

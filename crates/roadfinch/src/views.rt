@@ -1,4 +1,5 @@
 // What the store holds, in text. `as`, since there is no `From` between usize and u32 or u64, and `try_from` would add a case that can't come.
+// The store is passed beside the memory, whose `store` is an Option: to read it there would add that case too.
 use crate::memory::Memory;
 use crate::output::Output;
 use shell::fields::{front, part};
@@ -51,12 +52,10 @@ pub(crate) fn unitigs(
     out.named(b"ok ", u64::from(shared.unitigs))?;
     out.text(b"\n")?;
     let files = front(&memory.runs, shared.runs.used);
-    let entries = memory.table.chunks(2).take(shared.unitigs as usize);
-    for (place, entry) in entries.enumerate() {
-        if let [start, n] = entry {
-            let bytes = part(files, *start as usize, files.len());
-            unitig(place, *n, bytes, piece, out)?;
-        }
+    let entries = memory.table.as_chunks::<2>().0;
+    for (place, [start, n]) in front(entries, shared.unitigs as usize).iter().enumerate() {
+        let bytes = part(files, *start as usize, files.len());
+        unitig(place, *n, bytes, piece, out)?;
     }
     Ok(())
 }
