@@ -1,5 +1,5 @@
 // The index of a record file: where each record begins, and where the last one ends.
-// `as` below: no `From` leads from u32 to usize, or from usize to u64.
+// `as` below: no `From` leads from usize to u64.
 ghost use Rattle.std.specs.Prelude.{◌≡◌, [], ◌≤◌, ◌<◌, length};
 ghost use Rattle.base.specs.Answers.{done, of_made};
 ghost use Rattle.base.specs.Parts.{over};
@@ -15,12 +15,7 @@ fn long_record(bytes: &[u8], at: usize) -> Result<usize, Refusal>
     ensures { SteppedAt bytes.now at result }
 {
     let Prefix { value, len } = crate::prefix::read_varint_len(&bytes[at..])?;
-    let start = at + len;
-    let size = value as usize;
-    if bytes.len() - start < size {
-        return Err(Refusal::Cut);
-    }
-    Ok(start + size)
+    crate::prefix::payload_end(bytes, at + len, value)
 }
 
 // The same, small enough to stand in the loops: most prefixes have one byte.

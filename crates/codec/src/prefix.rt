@@ -1,7 +1,8 @@
 // LEB128 length prefixes: seven bits a byte, low group first, 128 added on all but the last.
-// `as` below: each group is proved to fit a byte, and `try_from` would add a case that can't come.
-ghost use Rattle.std.specs.Prelude.{◌≡◌, ◌+◌, ◌*◌, ◌<◌, ◌≤◌, ◌^◌, length};
-ghost use Rattle.base.specs.Answers.{of_written};
+// `as` below: no `From` leads from u32 to usize. Each group is proved to fit a byte, and `try_from` would add a case
+// that can't come.
+ghost use Rattle.std.specs.Prelude.{◌≡◌, ◌+◌, ◌*◌, ◌<◌, ◌≤◌, ◌^◌, length, IfOk, IfErr};
+ghost use Rattle.base.specs.Answers.{of_written, number_of};
 ghost use Rattle.base.specs.Parts.{over};
 ghost use Rattle.codec.specs.Prefix.{prefix_of, read_prefix, of_prefix, prefix_in, write_prefix};
 ghost use Rattle.codec.specs.Inside.Prefixes.{last_of};
@@ -44,6 +45,19 @@ pub fn read_varint_len(bytes: &[u8]) -> Result<Prefix, Refusal>
         value += (group - 128) << (7 * i);
     }
     Err(Refusal::Damaged)
+}
+
+// The end of the payload of `size` bytes that begins at `start`, behind its prefix, where all of it is there.
+pub(crate) fn payload_end(bytes: &[u8], start: usize, size: u32) -> Result<usize, Refusal>
+    requires { start ≤ length bytes.now }
+    ensures whole { IfOk result (λ end. (end ≡ start + size) × (end ≤ length bytes.now)) }
+    ensures cut { IfErr result (λ r. (number_of r ≡ 4) × (length bytes.now < start + size)) }
+{
+    let size = size as usize;
+    if bytes.len() - start < size {
+        return Err(Refusal::Cut);
+    }
+    Ok(start + size)
 }
 
 // How many bytes the prefix of `n` has.

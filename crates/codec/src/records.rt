@@ -79,11 +79,7 @@ pub fn read_color_record(n: u32, input: &[u8], ids: &mut [u32]) -> Result<Given,
 {
     let colors = Colors::new(n)?;
     let Prefix { value, len } = crate::prefix::read_varint_len(input)?;
-    let value = value as usize;
-    if input.len() - len < value {
-        return Err(Refusal::Cut);
-    }
-    let bytes = len + value;
+    let bytes = crate::prefix::payload_end(input, len, value)?;
     let items = read_payload(colors, &input[len..bytes], ids)?;
     Ok(Given { items, bytes })
 }
@@ -134,10 +130,8 @@ pub fn is_color_record(n: u32, ids: &[u32], input: &[u8]) -> bool
     let Ok(Prefix { value, len }) = crate::prefix::read_varint_len(input) else {
         return false;
     };
-    let value = value as usize;
-    if input.len() - len < value {
+    let Ok(end) = crate::prefix::payload_end(input, len, value) else {
         return false;
-    }
-    let end = len + value;
+    };
     crate::sets::same_set(set, &input[len..end])
 }

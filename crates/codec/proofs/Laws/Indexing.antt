@@ -12,7 +12,7 @@ use Rattle.base.specs.Answers.{Answer, refused, done, number_of}
 use Rattle.base.specs.Parts.{over}
 use Rattle.base.specs.declared.Refusal.{Refusal}
 use Rattle.base.specs.declared.Refusal.TheVariants as refusal
-use Rattle.std.specs.Prelude.{Ok, Err}
+use Rattle.std.specs.Prelude.{Result, Ok, Err, IfOk, IfErr}
 use Rattle.base.proofs.Tests.{when_yes, when_no}
 use Rattle.codec.specs.Prefix.{ReadLeb, whole, cut, bad, read_leb, read_prefix, prefix_in}
 use Rattle.codec.specs.Index.{Indexed, entries, stopped, and_entry, behind, index_from, index_of, index_by, make_index}
@@ -84,6 +84,11 @@ module _ (bytes : List ℕ) (at : ℕ) (inside : at ≤ length bytes) where
           λ count. from_is count ∙ rw (le-leb n (length (drop len (drop at bytes))) (omega (arith, left_is)), place, later),
           omega (arith, step_start_lem),
         )
+
+    -- by what tells whether the payload is there
+    pub step_by : (r : Result ℕ Refusal) → IfOk r (λ end. (end ≡ at + len + n) × (end ≤ length bytes)) → IfErr r (λ x. (number_of x ≡ 4) × (length bytes < at + len + n)) → SteppedAt bytes at r
+    step_by (Ok end) there missing = rw there.0 (step_next (omega arith))
+    step_by (Err x) there missing = λ count. step_cut (omega (arith, step_start_lem)) count ∙ ap stopped (sym missing.0)
 
 -- ---- the records passed, without their entries
 

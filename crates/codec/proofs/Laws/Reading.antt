@@ -63,20 +63,20 @@ told_set no_set rest out total n e = refl
 told_set (set ids) rest out total n e = told_put ids rest out total n (ltb (length out) (length ids)) e
 
 module _ (N : ℕ) (input : List ℕ) (value len : ℕ) (out : List ℕ) (inside : len ≤ length input) where
-  pub payload_cut : length input - len < value → (refused 4, out) ≡ read_by (after_prefix N (whole value (drop len input))) (length input) out
+  pub payload_cut : length input < len + value → (refused 4, out) ≡ read_by (after_prefix N (whole value (drop len input))) (length input) out
   unfolding read_by
   payload_cut h = rw (lt-leb value (length (drop len input)) (simp length-drop (omega arith)))
 
   -- what its set gives
-  pub payload_put : value ≤ length input - len → (p : Answer × List ℕ) → p ≡ put_set (decode_set N (take (len + value - len) (drop len input))) out
-      → told (len + value) p ≡ read_by (after_prefix N (whole value (drop len input))) (length input) out
-  payload_put fits p e =
+  pub payload_put : (end : ℕ) → end ≡ len + value → end ≤ length input → (p : Answer × List ℕ) → p ≡ put_set (decode_set N (take (end - len) (drop len input))) out
+      → told end p ≡ read_by (after_prefix N (whole value (drop len input))) (length input) out
+  payload_put end is fits p e =
       let rest : List ℕ = drop value (drop len input) in
-      let v : len + value - len ≡ value = omega arith in
+      let v : end - len ≡ value = omega arith in
       let there : value ≤ length (drop len input) = simp length-drop (omega arith) in
-      let taken : length input - length rest ≡ len + value = simp length-drop (omega arith) in
-      ap (told (len + value)) (e ∙ ap (λ (k : ℕ). put_set (decode_set N (take k (drop len input))) out) v)
-      ∙ rw (le-leb value (length (drop len input)) there) (told_set (decode_set N (take value (drop len input))) rest out (length input) (len + value) taken)
+      let taken : length input - length rest ≡ end = simp length-drop (omega arith) in
+      ap (told end) (e ∙ ap (λ (k : ℕ). put_set (decode_set N (take k (drop len input))) out) v)
+      ∙ rw (le-leb value (length (drop len input)) there) (told_set (decode_set N (take value (drop len input))) rest out (length input) end taken)
 
 -- ---- the whole record
 

@@ -3,7 +3,7 @@ use native.Mathlib.Omega.{arith}
 use Rattle.codec.proofs.Laws.Refusals.{passed_on}
 use mathlib.Core.List.{[], ◌∷◌}
 use Rattle.base.specs.Answers.{done}
-use Rattle.codec.proofs.Laws.Indexing.{Says, part_says, step_up, step_start_lem, step_cut, step_next}
+use Rattle.codec.proofs.Laws.Indexing.{Says, part_says, step_up, step_start_lem, step_by}
 use Rattle.codec.proofs.index.long_record.Goals as goal
 use Rattle.codec.proofs.index.long_record.Goals.{In_ok-value}
 
@@ -16,20 +16,11 @@ pub returns-in_err-value : goal.returns-in_err-value
 returns-in_err-value c =
     rw (passed_on c.from_residual.ensures.1) (step_up _ _ c.requires _ (part_says c.args.bytes.now c.args.at c.in_err-value.ensures))
 
-pub overflow_add-start : goal.overflow_add-start
-overflow_add-start c = omega (arith, step_start_lem _ _ c.requires _ _ (said c))
+pub overflow_add-at : goal.overflow_add-at
+overflow_add-at c = omega (arith, step_start_lem _ _ c.requires _ _ (said c))
 
-pub overflow_sub-bytes : goal.overflow_sub-bytes
-overflow_sub-bytes c = omega (arith, step_start_lem _ _ c.requires _ _ (said c))
-
-pub returns-then-bytes-start : goal.returns-then-bytes-start
-returns-then-bytes-start c =
-    step_cut _ _ c.requires _ _ (said (goal.at.returns-then-bytes-start c).In_ok-value) (omega arith)
-
-pub overflow_add-result : goal.overflow_add-result
-overflow_add-result c =
-    omega (arith, step_start_lem _ _ c.requires _ _ (said (goal.at.overflow_add-result c).In_ok-value))
+pub payload_end-requires : goal.payload_end-requires
+payload_end-requires c = step_start_lem _ _ c.requires _ _ (said c)
 
 pub returns : goal.returns
-returns c =
-    step_next _ _ c.requires _ _ (said (goal.at.returns c).In_ok-value) (omega arith)
+returns c = step_by _ _ c.requires _ _ (said (goal.at.returns c).In_ok-value) _ c.payload_end.ensures.whole c.payload_end.ensures.cut
