@@ -1,3 +1,4 @@
 -- Laws of tapes.
 pub mod Turns
 pub mod Cases
+pub mod Heads

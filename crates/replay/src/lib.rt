@@ -123,19 +123,19 @@ fn part<T>(pool: &[T], from: u32, count: u32) -> &[T]
     &pool[at..end]
 }
 
-// The six numbers of call i.
-fn head_at(calls: &[u32], i: usize) -> Head
-    requires { 6 * i + 6 ≤ length calls.now }
-    ensures { result ≡ head_at calls.now i }
-{
-    let [kind, a, b, c, from, count] = *calls[6 * i..].first_chunk::<6>().unwrap();
-    Head {
-        kind,
-        a,
-        b,
-        c,
-        from,
-        count,
+impl From<[u32; 6]> for Head {
+    ghost from_gives = { λ numbers h. h ≡ head_at numbers 0 };
+
+    fn from(numbers: [u32; 6]) -> Head {
+        let [kind, a, b, c, from, count] = numbers;
+        Head {
+            kind,
+            a,
+            b,
+            c,
+            from,
+            count,
+        }
     }
 }
 
@@ -220,13 +220,14 @@ impl Buffers<'_> {
         ensures same_references { same_references self.new self.old }
         ensures run { tape result (bufs_in self.new) refusals.new answers.new shown.new ≡ replay_step begun (bufs_in self.old) calls.now ids.now pieces.now refusals.old answers.old shown.old }
     {
-        let n = (calls.len() / 6).min(refusals.len().min(answers.len()));
+        let heads = calls.as_chunks::<6>().0;
+        let n = heads.len().min(refusals.len().min(answers.len()));
         let mut s = begun;
         let mut at: usize = 0;
         // by the number of the turn, since it writes to two lent lists: the two zipped by `iter_mut` would say nothing of
         // what they hold afterwards
         for i in 0..n {
-            let call = Call::from(head_at(calls, i));
+            let call = Call::from(Head::from(heads[i]));
             let room = call.room(shown.len() - at);
             let end = at + room;
             let told = self.one(s, call, ids, pieces, &mut shown[at..end]);

@@ -1,13 +1,15 @@
-use Prim.Native.Nat.{ℕ, ◌-◌}
-use mathlib.Core.Path.{◌≡◌, refl, ◌∙◌}
+use Prim.Native.Nat.{ℕ, ◌-◌, ◌/◌}
+use mathlib.Core.Path.{◌≡◌, refl, ap, ◌∙◌}
 use native.Mathlib.Omega.{arith}
-use lib.ListN.{length}
+use lib.ListN.{length, get_or}
+use mathlib.Core.List.{List, []}
 use Rattle.std.specs.Prelude.{Result, Ok, Err}
 use Rattle.base.specs.declared.Refusal.{Refusal}
 use Rattle.base.specs.Answers.{code_of}
 use Rattle.store.specs.State.{of_answer}
-use Rattle.replay.specs.Tape.{refusal_of, count_of, replay_step}
+use Rattle.replay.specs.Tape.{head_at, refusal_of, count_of, replay_step}
 use Rattle.replay.specs.Inside.{room_by}
+use Rattle.replay.proofs.Laws.Heads.{head_in}
 use Rattle.replay.proofs.Laws.Turns.{keep_none, lent_zero, lent_next, keep_turn, part_roomy}
 use Rattle.replay.proofs.Buffers.all.Goals as goal
 
@@ -36,12 +38,14 @@ loop-i-preserved c =
     let v = c.loop-i.invariant.1 in
     let f = c.one-told.ensures.same_references in
     let m = c.loop-i.auto.shown in
+    let h : c.from.result ≡ head_at c.args.calls.now c.loop-i.i =
+        c.from.ensures ∙ ap (λ (ws : List (List ℕ)). head_at (get_or ws c.loop-i.i []) 0) c.as_chunks.ensures.front ∙ head_in (length c.args.calls.now / 6) c.loop-i.i c.args.calls.now (omega (arith, c.loop-i-test.true, c.min-n.ensures, c.min.ensures)) in
     let w : c.room-room.result ≡ room_by c.from-call.result (length c.args.shown.now - c.loop-i.at) = rw m at r.0 in (
       (f.0 ∙ k.0, f.1 ∙ k.1, f.2 ∙ k.2, f.3 ∙ k.3, f.4 ∙ k.4, f.5 ∙ k.5),
       record {
         inside = omega (arith, r.1, v.inside, m);
-        places = lent_next _ _ _ _ c.loop-i.i _ _ _ _ v.inside v.places c.head_at.ensures c.from-call.ensures w;
-        done = rw (c.code_of.ensures, code_told, c.value_of.ensures) (keep_turn _ _ _ _ _ _ _ _ c.loop-i.i _ _ _ _ (omega arith) (omega arith) v.inside v.places c.head_at.ensures c.from-call.ensures w _ _ _ _ _ _ _ _ _ v.done c.one-told.ensures.step);
+        places = lent_next _ _ _ _ c.loop-i.i _ _ _ _ v.inside v.places h c.from-call.ensures w;
+        done = rw (c.code_of.ensures, code_told, c.value_of.ensures) (keep_turn _ _ _ _ _ _ _ _ c.loop-i.i _ _ _ _ (omega arith) (omega arith) v.inside v.places h c.from-call.ensures w _ _ _ _ _ _ _ _ _ v.done c.one-told.ensures.step);
       },
     )
 
