@@ -47,7 +47,9 @@ pub(crate) fn chunk_width(base: u32, n: u32) -> u32
     (n - base).min(32)
 }
 
-// The bitmap behind the bits of `w`.
+// The bitmap behind the bits of `w`. Its chunks come by three lines, here and in `same_map`: an iterator of them would
+// be a struct of the set, `i` and `base` with its `next`, and a definition and laws of all its words together, which is
+// no plainer for two loops.
 pub(crate) fn write_map(w: &mut BitWriter, set: ColorSet)
     requires { Ready w.old set.colors.n }
     ensures same_reference { w.new.out.ghost_name ≡ w.old.out.ghost_name }
@@ -102,7 +104,9 @@ fn fill_chunk(word: u64, width: u32, base: u32, out: &mut [u32], k: usize) -> us
 }
 
 impl Body<'_> {
-    // How many ids a bitmap tells.
+    // How many ids a bitmap tells. Its chunks come by three lines, here and in `fill_map`: an iterator of them would be
+    // a struct of the body and `base` with its `next`, and a definition and laws of all its words together, which is no
+    // plainer for two loops.
     pub(crate) fn count_map(self) -> usize
         requires { self.at + self.colors.n ≤ 8 * length self.source.bytes.now }
         ensures { (result ≡ length (ids_of 0 (map_in self.entry))) × (result ≤ self.entry.colors.n) }

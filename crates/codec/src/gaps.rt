@@ -14,7 +14,9 @@ use crate::codes::ReadCode;
 use crate::colors::ColorSet;
 use crate::source::Source;
 
-// A place in the ids to code: `i` ids of the set are passed, and the next coded id is `from` or more.
+// A place in the ids to code: `i` ids of the set are passed, and the next coded id is `from` or more. The set stays
+// beside it: with the set inside, `next_id` and `skip_present` would not ask for `Ahead`, but `Gave` and each loop would
+// have to say that the next place is one in the same set. `map_chunk` asks for it of a place that is no cursor.
 #[derive(Clone, Copy)]
 pub(crate) struct Cursor {
     pub(crate) i: usize,
