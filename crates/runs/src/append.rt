@@ -46,7 +46,7 @@ fn drops_first(runs: &[u64], piece: &Oriented) -> bool
 
 // The piece's runs behind the output's, without its first where that is dropped.
 fn fill_appended(out: &mut [u64], used: usize, piece: &Shifted, drops: bool)
-    requires { (0 < length piece.now.list.runs.now) × (used + (length piece.now.list.runs.now - from_bool drops) ≤ length out.old) }
+    requires { used + (length piece.now.list.runs.now - from_bool drops) ≤ length out.old }
     ensures { out.new ≡ paste out.old used (shifted piece.now.shift (drop (from_bool drops) (list_of piece.now.list))) (length piece.now.list.runs.now - from_bool drops) }
 {
     if drops {

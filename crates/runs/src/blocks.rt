@@ -49,7 +49,7 @@ impl<'a> Blocks<'a> {
         }
     }
 
-    // The coordinate of a vertex by them.
+    // The coordinate of a vertex by them. They are gone through one by one: `partition_point` is a method of slices, and these are bytes.
     #[tactic(auto, using(crate::proofs::Laws::Bytes::length_words))]
     pub(crate) fn color_at(&self, vertex: u32) -> u64
         ensures { result ≡ colour_at vertex (runs_of self.now) }

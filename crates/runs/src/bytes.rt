@@ -27,7 +27,8 @@ fn bytes_for(count: u32) -> usize
     codec::prefix::varint_len(count) + 8 * count as usize
 }
 
-// The runs that the iterator gives, eight bytes each, to the front of `out`.
+// The runs that the iterator gives, eight bytes each, to the front of `out`. `YieldsUpTo`, here and in `write`, bounds what the iterator
+// gives; it is a clause, since no struct holds the iterator.
 fn fill_bytes<I: Iterator<Item = u64>>(runs: I, out: &mut [u8])
     requires { YieldsUpTo I.can_next I.next_gives I.remaining runs (length out.old / 8) }
     ensures { (all : List ℕ) → YieldsAll I.next_gives runs all → out.new ≡ over (flat (le_bytes 8) all) out.old }

@@ -8,7 +8,8 @@ ghost use Rattle.runs.specs.Append.{shifted};
 
 use crate::{orders, words};
 
-// A list that is steady for n vertices, or that list reversed.
+// A list that is steady for n vertices, or that list reversed. The public functions have `runs`, `n` and `reversed` one by one: these are
+// the parameters of the reference and of the C interface.
 #[derive(Clone, Copy)]
 pub(crate) struct Oriented<'a> {
     pub(crate) runs: &'a [u64],
@@ -70,9 +71,10 @@ impl Shifted<'_> {
         self.fill_rest(&mut out[1..]);
     }
 
-    // The runs behind the first to the front of `out`.
+    // The runs behind the first to the front of `out`. That they fit is a clause of this and the two below: list and output meet only in
+    // these calls, and a struct of both would owe the same fact at each.
     pub(crate) fn fill_rest(&self, out: &mut [u64])
-        requires { (0 < length self.now.list.runs.now) × (length self.now.list.runs.now ≤ length out.old + 1) }
+        requires { length self.now.list.runs.now ≤ length out.old + 1 }
         ensures { out.new ≡ over (shifted self.now.shift (drop 1 (list_of self.now.list))) out.old }
     {
         if self.list.reversed {
@@ -84,26 +86,29 @@ impl Shifted<'_> {
 
     // The same of a list that isn't reversed.
     fn fill_forward(&self, out: &mut [u64])
-        requires { (0 < length self.now.list.runs.now) × (length self.now.list.runs.now ≤ length out.old + 1) }
+        requires { length self.now.list.runs.now ≤ length out.old + 1 }
         ensures { out.new ≡ over (shifted self.now.shift (drop 1 self.now.list.runs.now)) out.old }
     {
+        let Some((_, rest)) = self.list.runs.split_first() else {
+            return;
+        };
         let shift = u64::from(self.shift);
-        // `out` by index: no clause says what a slice holds after a `zip` over its `iter_mut`.
-        for (i, run) in self.list.runs[1..].iter().enumerate() {
+        // `out` by index: by `enumerate` over its `iter_mut` the runs would go by index, and no clause says what it holds after a `zip`.
+        for (i, run) in rest.iter().enumerate() {
             out[i] = *run + shift;
         }
     }
 
     // The same of a reversed list. A loop of its own: each run needs the one that it stood before, which `fill_forward` doesn't read.
     fn fill_backward(&self, out: &mut [u64])
-        requires { (0 < length self.now.list.runs.now) × (length self.now.list.runs.now ≤ length out.old + 1) }
+        requires { length self.now.list.runs.now ≤ length out.old + 1 }
         ensures { out.new ≡ over (shifted self.now.shift (drop 1 (reverse_runs self.now.list.n self.now.list.runs.now))) out.old }
     {
         let runs = self.list.runs;
         let m = runs.len();
         let top = u64::from(self.list.n + self.shift);
         // By index, which both reads need too: `enumerate` over `iter_mut` is no plainer.
-        for i in 0..m - 1 {
+        for i in 0..m.saturating_sub(1) {
             out[i] = words::backed(runs[m - 2 - i], runs[m - 1 - i], top);
         }
     }

@@ -30,7 +30,7 @@ pub(crate) fn count(cycle: Turned) -> usize
     cycle.count()
 }
 
-// All that the iterator gives to the front of `out`.
+// All that the iterator gives to the front of `out`. `YieldsUpTo` bounds it; it is a clause, since no struct holds the iterator.
 fn fill<I: Iterator<Item = u64>>(runs: I, out: &mut [u64])
     requires { YieldsUpTo I.can_next I.next_gives I.remaining runs (length out.old) }
     ensures { (all : List ℕ) → YieldsAll I.next_gives runs all → out.new ≡ over all out.old }

@@ -63,6 +63,11 @@ put_none k n true [] out e = refl
 put_none k n false [] out e = refl
 put_none k n r (w ∷ ws) out e = absurd (omega arith)
 
+pub rest_none : (k : ℕ) (ws out : List ℕ) → length ws ≡ 0 → out ≡ over (shifted k (drop 1 ws)) out
+unfolding over shifted
+rest_none k [] out e = refl
+rest_none k (w ∷ ws) out e = absurd (omega arith)
+
 pub shifted_none : (ws : List ℕ) → shifted 0 ws ≡ ws
 unfolding shifted
 shifted_none [] = refl

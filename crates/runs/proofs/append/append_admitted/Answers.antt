@@ -12,7 +12,7 @@ returns-then-out-total c =
     result_3 c.args.out.now c.args.used c.args.out_count c.args.piece.now.runs.now c.args.piece.now.n c.args.piece.now.reversed c.requires.fits _ _ (c.from.ensures ∙ skip_is _ _ _ c.drops_first-drops.ensures) refl c.if-out-total.true
 
 pub fill_appended-requires : goal.fill_appended-requires
-fill_appended-requires c = (c.requires.first, omega (arith, c.from.ensures, c.if-out-total.false))
+fill_appended-requires c = omega (arith, c.from.ensures, c.if-out-total.false)
 
 pub returns : goal.returns
 returns c =

@@ -15,7 +15,7 @@ use Rattle.runs.proofs.append.fill_appended.Goals as goal
 pub fill_rest-requires : goal.fill_rest-requires
 fill_rest-requires c =
     let q : from_bool c.args.drops ≡ 1 = ap from_bool c.if-drops.true in
-    (c.requires.0, omega (arith, q))
+    omega (arith, q)
 
 pub fill-requires : goal.fill-requires
 fill-requires c =

@@ -25,7 +25,7 @@ pub fill_rest-requires : goal.fill_rest-requires
 fill_rest-requires c =
     let ws = c.args.self.now.list.runs.now in
     let some : 0 < length ws = grind (arith, nat_tests) in
-    (some, front_room _ (length ws) c.args.out.now _ c.put_front.ensures (omega arith) c.requires)
+    front_room _ (length ws) c.args.out.now _ c.put_front.ensures (omega arith) c.requires
 
 pub returns : goal.returns
 returns c =
