@@ -1,4 +1,6 @@
 // A state and buffers that no call left. Numbers become lengths by `as`, since there is no `From` from u64 to usize.
+// The six buffers are told apart by name twice here and twice in views.rt: some hold bytes and some words, so a function from a name to its buffer
+// would answer with an enum, which each of the four would take apart again.
 use crate::args::{StepError, narrow, size, wide};
 use crate::bench::Bench;
 use crate::replies::Reply;
@@ -6,7 +8,7 @@ use shell::reasons::Fault;
 use shell::words::Words;
 use store::state::{Current, Last, Store, Way};
 
-// A vertex count, or 16,777,217 for none.
+// As a case writes it: a vertex count, or 16,777,217 for none.
 fn current_of(vertices: u32) -> Current {
     match vertices {
         16777217 => Current::Nothing,
@@ -14,7 +16,7 @@ fn current_of(vertices: u32) -> Current {
     }
 }
 
-// 0: no call; 1: an add; 2: a close as a line.
+// As a case writes it: 0, no call; 1, an add; 2, a close as a line.
 fn last_of(call: u32) -> Last {
     match call {
         0 => Last::Fresh,

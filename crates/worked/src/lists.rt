@@ -26,7 +26,7 @@ impl Bench {
         Ok(())
     }
 
-    // So many runs at the front of the output, and whether it held `before` but for some places.
+    // So many runs at the front of the output, and whether nothing was altered but what has to be.
     pub(crate) fn told(
         &self,
         answer: Result<usize, Refusal>,

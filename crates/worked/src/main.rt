@@ -14,17 +14,16 @@ mod lists; // run lists
 mod views; // what lies in a buffer
 
 use crate::bench::Bench;
-use shell::inputs;
 use std::io;
+use std::io::Read;
 
 // How many bytes of input are read.
-const MOST_BYTES: usize = 65536;
+const MOST_BYTES: u64 = 65536;
 
 fn main(rt: HostRuntime) -> io::Result<()> {
     let alloc = rt.alloc();
-    let mut text = vec![in alloc; 0u8; MOST_BYTES]?;
-    let count = inputs::read_full(&mut rt.stdin(), &mut text)?;
-    text.truncate(count);
+    let mut text = Vec::new(alloc);
+    rt.stdin().take(MOST_BYTES).read_to_end(&mut text)?;
     let mut bench = Bench::new(alloc)?;
     for line in text.split(|byte| *byte == b'\n') {
         // A line without a colon is a comment, or empty.

@@ -2,6 +2,7 @@
 // usize by `as`, since there is no `From` for it from u64.
 use crate::buffers::{Buffer, Buffers, EIGHT, WORDS};
 use crate::replies::{Reply, Said};
+use base::Refusal;
 use shell::lengths::Lengths;
 use std::alloc::{AllocError, Global};
 use store::state::{Store, Told, Way};
@@ -52,8 +53,8 @@ impl State {
         })
     }
 
-    // A call of the store, and whether it left all as it was.
-    fn call<F>(&mut self, call: F) -> Result<Reply, AllocError>
+    // What a call of the store answers, and whether it left all as it was.
+    fn told<F>(&mut self, call: F) -> Result<(Result<u64, Refusal>, bool), AllocError>
     where
         F: FnOnce(Store, &mut Buffers) -> Told<Store, u64>,
         requires { F.IsAlwaysCallable call }
@@ -61,9 +62,19 @@ impl State {
         let before = self.clone()?;
         let told = call(self.store, &mut self.buffers);
         self.store = told.state;
+        Ok((told.answer, *self == before))
+    }
+
+    // The same of a call that answers with a value.
+    fn call<F>(&mut self, call: F) -> Result<Reply, AllocError>
+    where
+        F: FnOnce(Store, &mut Buffers) -> Told<Store, u64>,
+        requires { F.IsAlwaysCallable call }
+    {
+        let (answer, kept) = self.told(call)?;
         Ok(Reply::Called {
-            answer: told.answer.map(Said::Value),
-            kept: *self == before,
+            answer: answer.map(Said::Value),
+            kept,
         })
     }
 
@@ -128,26 +139,25 @@ impl State {
         vertex: u32,
         room: usize,
     ) -> Result<Reply, AllocError> {
-        let before = self.clone()?;
         let mut ids = Buffer::<u32>::filled(alloc, WORDS, EIGHT, room)?;
-        let b = &self.buffers;
-        let told = self.store.show(
-            unitig,
-            vertex,
-            ids.front_mut(),
-            b.records.front(),
-            b.index.front(),
-            b.opened.front(),
-            b.held.front(),
-            b.runs.front(),
-            b.table.front(),
-        );
-        self.store = told.state;
-        let count = told.answer.unwrap_or(0) as usize;
-        let kept = *self == before && ids.is_fresh_from(count);
+        let (answer, same) = self.told(|store, b| {
+            store.show(
+                unitig,
+                vertex,
+                ids.front_mut(),
+                b.records.front(),
+                b.index.front(),
+                b.opened.front(),
+                b.held.front(),
+                b.runs.front(),
+                b.table.front(),
+            )
+        })?;
+        let count = answer.unwrap_or(0) as usize;
+        let kept = same && ids.is_fresh_from(count);
         let ids = ids.into_front(count);
         Ok(Reply::Called {
-            answer: told.answer.map(|_| Said::Ids { ids, of: None }),
+            answer: answer.map(|_| Said::Ids { ids, of: None }),
             kept,
         })
     }

@@ -8,28 +8,27 @@ use shell::fields::front;
 use shell::words::Words;
 use std::alloc::{AllocError, Global};
 
-fn bytes(alloc: Global, buffer: &Buffer<u8>, used: usize) -> Result<Reply, AllocError> {
-    let bytes = front(&buffer.places, used).to_vec(alloc)?;
+// The places as what `said` makes of their count and of them.
+fn places_as<T, F>(
+    alloc: Global,
+    buffer: &Buffer<T>,
+    used: usize,
+    said: F,
+) -> Result<Reply, AllocError>
+where
+    T: Copy + PartialEq + From<u8>,
+    F: FnOnce(usize, Vec<T>) -> Said,
+    requires { F.IsAlwaysCallable said }
+{
+    let places = front(&buffer.places, used).to_vec(alloc)?;
     Ok(Reply::Called {
-        answer: Ok(Said::Bytes { count: used, bytes }),
+        answer: Ok(said(used, places)),
         kept: buffer.is_fresh_from(used),
     })
 }
 
-// Words as what `said` makes of their count and of them.
-fn words_as<F: FnOnce(usize, Vec<u64>) -> Said>(
-    alloc: Global,
-    buffer: &Buffer<u64>,
-    used: usize,
-    said: F,
-) -> Result<Reply, AllocError>
-    requires { F.IsAlwaysCallable said }
-{
-    let words = front(&buffer.places, used).to_vec(alloc)?;
-    Ok(Reply::Called {
-        answer: Ok(said(used, words)),
-        kept: buffer.is_fresh_from(used),
-    })
+fn bytes(count: usize, bytes: Vec<u8>) -> Said {
+    Said::Bytes { count, bytes }
 }
 
 fn entries(_: usize, words: Vec<u64>) -> Said {
@@ -58,12 +57,12 @@ impl Bench {
         let b = &self.state.buffers;
         let store = &self.state.store;
         match name {
-            b"records" => bytes(alloc, &b.records, store.cell.records.used),
-            b"index" => words_as(alloc, &b.index, store.cell.sets as usize + 1, entries),
-            b"opened" => words_as(alloc, &b.opened, store.cell.opened.used, runs),
-            b"held" => words_as(alloc, &b.held, store.cell.held.used, runs),
-            b"runs" => bytes(alloc, &b.runs, store.shared.runs.used),
-            _ => words_as(alloc, &b.table, 2 * store.shared.unitigs as usize, entries),
+            b"records" => places_as(alloc, &b.records, store.cell.records.used, bytes),
+            b"index" => places_as(alloc, &b.index, store.cell.sets as usize + 1, entries),
+            b"opened" => places_as(alloc, &b.opened, store.cell.opened.used, runs),
+            b"held" => places_as(alloc, &b.held, store.cell.held.used, runs),
+            b"runs" => places_as(alloc, &b.runs, store.shared.runs.used, bytes),
+            _ => places_as(alloc, &b.table, 2 * store.shared.unitigs as usize, entries),
         }
     }
 
