@@ -123,7 +123,7 @@ pub(crate) fn split_top(s: u32) -> Split
     requires { 0 < s }
     ensures { SplitOf s result }
 {
-    let bit = 31 - s.leading_zeros();
+    let bit = s.ilog2();
     Split {
         bit,
         low: u64::from(s) - (1u64 << bit),
@@ -175,7 +175,7 @@ pub(crate) fn delta_len(v: u32) -> usize
     requires { v ≤ 2 ^ 20 }
     ensures { (result ≡ length (delta v)) × (result ≤ 29) }
 {
-    top_len(31 - (v + 1).leading_zeros()) as usize
+    top_len((v + 1).ilog2()) as usize
 }
 
 // The delta code of `v` behind the bits of `w`.

@@ -212,16 +212,16 @@ impl Body<'_> {
     }
 }
 
-// The numbers from `from` up to `to` to place `k` of `out` on: the place behind them. By index, since a `zip` of
-// the places of `out` with the numbers promises nothing of `out` afterwards.
+// The numbers from `from` up to `to` to place `k` of `out` on: the place behind them.
 fn fill_numbers(from: u32, to: u32, out: &mut [u32], k: usize) -> usize
     requires { (from ≤ to) × (k + (to - from) ≤ length out.old) }
     ensures { (result ≡ k + (to - from)) × (out.new ≡ over (take k out.old ++ numbers from (to - from)) out.old) }
 {
-    for id in from..to {
-        out[k + (id - from) as usize] = id;
+    let end = k + (to - from) as usize;
+    for (j, place) in out[k..end].iter_mut().enumerate() {
+        *place = from + j as u32;
     }
-    k + (to - from) as usize
+    end
 }
 
 // The ids below `top` but for `others`, to the front of `out`.

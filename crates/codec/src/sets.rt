@@ -33,7 +33,10 @@ fn has_fall(ids: &[u32]) -> bool
 pub(crate) fn is_ascending(ids: &[u32], n: u32) -> bool
     ensures { result ≡ within 0 n ids.now }
 {
-    ids.len() == 0 || !has_fall(ids) && ids[ids.len() - 1] < n
+    let Some(last) = ids.last() else {
+        return true;
+    };
+    *last < n && !has_fall(ids)
 }
 
 // How a set of `len` ids is written.

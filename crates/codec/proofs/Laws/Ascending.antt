@@ -1,12 +1,14 @@
 -- Ascending ids, by neighbours and by the last.
 use Prim.Native.Nat.{ℕ, suc, ◌+◌, ◌-◌, ◌≤◌, ◌<◌}
-use mathlib.Core.Path.{◌≡◌, refl, sym, ◌∙◌}
-use mathlib.Core.Bool.{Bool, true, false, not, ◌||◌, ◌&&◌}
+use mathlib.Core.Path.{◌≡◌, refl, sym, ap, ◌∙◌}
+use mathlib.Core.Bool.{Bool, true, false, not, ◌||◌, ◌&&◌, and_comm}
 use mathlib.Core.List.{List, [], ◌∷◌}
 use native.Mathlib.Omega.{arith}
 use native.Mathlib.Decide.{dec_le, dec_lt}
 use lib.ListN.{length, drop, get_or}
 use lib.Dec.{leb, ltb}
+use Rattle.std.specs.Prelude.{Option, Some, None, slice_get}
+use Rattle.std.proofs.lemmas.Option.{slice_get_within, get_or_from_slice_get, slice_get-get_or}
 use borrow.Author.Tests.{lt-ltb, le-ltb, le-leb, lt-leb}
 use Rattle.base.proofs.Bools.{and_right_no}
 use Rattle.codec.specs.Sets.{within}
@@ -46,16 +48,21 @@ last_at : (x : ℕ) (xs : List ℕ) → get_or (x ∷ xs) (length xs) 0 ≡ last
 last_at x [] = refl
 last_at x (y ∷ ys) = last_at y ys
 
-pub within_last : (ids : List ℕ) (n : ℕ) → 0 < length ids → within 0 n ids ≡ not (has_fall (get_or ids 0 0) (drop 1 ids)) && ltb (get_or ids (length ids - 1) 0) n
-within_last [] n h = absurd (omega arith)
-within_last (x ∷ xs) n h =
-    let e : suc (length xs) - 1 ≡ length xs = omega arith in
-    rw (e, last_at x xs) (by_last x xs 0 n (omega arith))
+-- the last id tells for all
+pub within_last : (ids : List ℕ) (n last : ℕ) → Some last ≡ slice_get ids (length ids - 1) → within 0 n ids ≡ (ltb last n && not (has_fall (get_or ids 0 0) (drop 1 ids)))
+within_last ids n last e = go ids (slice_get_within ids (length ids - 1) last (sym e)) (get_or_from_slice_get ids (length ids - 1) last 0 (sym e))
+  where
+    go : (ids : List ℕ) → length ids - 1 < length ids → get_or ids (length ids - 1) 0 ≡ last → within 0 n ids ≡ (ltb last n && not (has_fall (get_or ids 0 0) (drop 1 ids)))
+    go [] h e = absurd (omega arith)
+    go (x ∷ xs) h e =
+        let m : suc (length xs) - 1 ≡ length xs = omega arith in
+        let l : last_id x xs ≡ last = sym (last_at x xs) ∙ ap (λ (k : ℕ). get_or (x ∷ xs) k 0) (sym m) ∙ e in
+        by_last x xs 0 n (omega arith) ∙ and_comm (not (has_fall x xs)) (ltb (last_id x xs) n) ∙ ap (λ (k : ℕ). ltb k n && not (has_fall x xs)) l
 
-pub within_none : (ids : List ℕ) (n : ℕ) → length ids ≡ 0 → within 0 n ids ≡ true
+pub within_none : (ids : List ℕ) (n : ℕ) → None ≡ slice_get ids (length ids - 1) → within 0 n ids ≡ true
 unfolding within
 within_none [] n e = refl
-within_none (x ∷ xs) n e = absurd (omega arith)
+within_none (x ∷ xs) n e = let z : ◌≡◌ {A = Option ℕ} None (Some (get_or (x ∷ xs) (suc (length xs) - 1) 0)) = e ∙ slice_get-get_or (x ∷ xs) (suc (length xs) - 1) 0 (omega arith) in absurd cc
 
 -- ---- each id beside the one behind it: what was found, or a fall among those ahead
 

@@ -9,7 +9,6 @@ use native.Mathlib.Omega.{arith}
 use lib.ListN.{length, take, drop, get_or, replicate, length-append, take-append-drop, drop_of_length-le}
 use lib.Seq.{take_at, drop_at, length-take-le, drop-cons}
 use lib.Dec.{leb}
-use lib.Count.{count_leading_zeros, leading_top}
 use lib.Pow.{pow_pos, pow_mono}
 use lib.Arith.{half_le}
 use borrow.Author.Tests.{le-leb, lt-leb, leb-true}
@@ -48,11 +47,9 @@ high_unique n b l h =
     let s : Top n (high_bit n) = high_top n (le_trans (pow_pos b) l) in
     le_antisymm (top_le n (high_bit n) b s t) (top_le n b (high_bit n) t s)
 
--- the highest set bit, from the count of zeros above it
-pub high_leading : (n : ℕ) → 0 < n → n < 2 ^ 32 → (count_leading_zeros 32 n ≤ 31) × (31 - count_leading_zeros 32 n ≡ high_bit n)
-high_leading n p h =
-    let t = leading_top 32 n p h in
-    (omega (arith, t.1), omega (arith, t.1, high_unique n t.0 t.2 t.3))
+-- the highest set bit, as the logarithm
+pub high_log : (n b : ℕ) → 2 ^ b ≤ n → n < 2 * 2 ^ b → b ≡ high_bit n
+high_log n b l h = sym (high_unique n b l (omega (arith, h, pow-suc 2 b)))
 
 -- ---- the readers
 

@@ -5,7 +5,8 @@ use mathlib.Core.List.{List, [], ◌∷◌, ◌++◌, append_assoc, append-nil}
 use native.Mathlib.Numerals.{add-one}
 use native.Mathlib.Decide.{dec_lt}
 use native.Mathlib.Omega.{arith}
-use lib.ListN.{length, take, drop, get_or, set, length-append, take-append-drop}
+use borrow.Rule.Slice.PartMut.{put_mid}
+use lib.ListN.{length, take, drop, get_or, set, length-append, take-append-drop, drop_of_length-le}
 use lib.Seq.{drop-cons, set_at, set_out, append_snoc, take_at, take_all, take-nil, take-append-le, drop-append-add, drop-drop, length-take-le}
 use Rattle.base.specs.Parts.{over}
 use Rattle.base.proofs.Parts.{length_over}
@@ -67,6 +68,18 @@ module _ (old : List ℕ) (k : ℕ) (fits : k ≤ length old) where
   over_next out ys at x e h so =
       let n : length (take k old ++ ys) ≡ at = length-append (take k old) ys ∙ omega (arith, length-take-le k old fits) in
       rw so (over_set (take k old ++ ys) old at x n h ∙ ap (λ (l : List ℕ). over l old) (append_assoc (take k old) ys (x ∷ [])))
+
+  -- ys in the middle
+  pub over_mid : (n : ℕ) (ys : List ℕ) → length ys ≡ n → put_mid k n old ys ≡ over (take k old ++ ys) old
+  unfolding over
+  over_mid n ys e =
+      let m : length (take k old ++ ys) ≡ k + n = length-append (take k old) ys ∙ omega (arith, length-take-le k old fits, e) in
+      rw m (ap (λ (l : List ℕ). take k old ++ (ys ++ l)) (drop-drop n k old) ∙ sym (append_assoc (take k old) ys (drop (k + n) old)))
+
+-- what is written over a whole list
+pub over_all : (xs old : List ℕ) → length xs ≡ length old → over xs old ≡ xs
+unfolding over
+over_all xs old e = rw (drop_of_length-le old {i = length xs} (omega arith)) (append-nil xs)
 
 -- ---- more elements, from the place behind those written
 

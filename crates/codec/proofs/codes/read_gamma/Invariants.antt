@@ -1,4 +1,4 @@
--- `codec::gamma_at` meets its contract. The loop's invariant: the zeros so far and those from `place` are the zeros from `at`.
+-- `codes::read_gamma` meets its contract. The loop's invariant: the zeros so far and those from `place` are the zeros from `at`.
 use Prim.Native.Nat.{◌-◌, ◌*◌, ◌≤◌}
 use mathlib.Core.Path.{◌≡◌}
 use lib.ListN.{length, drop}

@@ -1,32 +1,42 @@
 use Prim.Native.Nat.{ℕ, ◌≤◌, ◌-◌, ◌<◌, ◌+◌}
-use mathlib.Core.Path.{◌≡◌, ap, ◌∙◌}
-use mathlib.Core.List.{List, [], ◌++◌, ◌∷◌}
+use mathlib.Core.Path.{◌≡◌, refl, sym, ap, ◌∙◌}
+use mathlib.Core.List.{List, ◌++◌}
 use native.Mathlib.Omega.{arith}
-use lib.ListN.{length, take, set}
+use borrow.Rule.Slice.PartMut.{put_mid}
+use lib.ListN.{length, take, drop, set, length-drop}
+use lib.Seq.{length-take-le}
 use Rattle.base.specs.Parts.{over}
 use Rattle.codec.specs.Inside.Gaps.{numbers}
-use Rattle.codec.proofs.Laws.Filled.{over_start, over_next}
+use Rattle.codec.proofs.Laws.Filled.{over_none, over_set, over_mid, over_all}
 use Rattle.codec.proofs.Laws.Gaps.{length_numbers, numbers_more}
 use Rattle.codec.proofs.gaps.fill_numbers.Goals as goal
 
--- with the numbers below `id` written
-none_yet : (old : List ℕ) (k from : ℕ) → k ≤ length old → old ≡ over (take k old ++ numbers from (from - from)) old
+none_yet : (old : List ℕ) (from : ℕ) → old ≡ over (numbers from 0) old
 unfolding numbers
-none_yet old k from h =
-    let z : from - from ≡ 0 = omega arith in
-    rw z (over_start old k h)
+none_yet old from = sym (over_none old)
 
-one_more : (out old : List ℕ) (k from id : ℕ) → from ≤ id → k + (id - from) < length old → out ≡ over (take k old ++ numbers from (id - from)) old
-    → set out (k + (id - from)) id ≡ over (take k old ++ numbers from (id + 1 - from)) old
-one_more out old k from id l h e =
-    let m : ℕ = id - from in
-    let s : id ≡ from + m = omega arith in
-    let t : m + 1 ≡ id + 1 - from = omega arith in
-    over_next old k (omega arith) out (numbers from m) (k + m) id (omega (arith, length_numbers m from)) h e
-    ∙ ap (λ (x : List ℕ). over (take k old ++ x) old) (ap (λ (x : ℕ). numbers from m ++ (x ∷ [])) s ∙ numbers_more m from ∙ ap (numbers from) t)
+one_more : (out old : List ℕ) (from j : ℕ) → j < length old → out ≡ over (numbers from j) old → set out j (from + j) ≡ over (numbers from (j + 1)) old
+one_more out old from j h e =
+    ap (λ (l : List ℕ). set l j (from + j)) e ∙ over_set (numbers from j) old j (from + j) (length_numbers j from) h
+    ∙ ap (λ (l : List ℕ). over l old) (numbers_more j from)
 
-pub loop-id-init : goal.loop-id-init
-loop-id-init c = none_yet c.args.out.now c.args.k c.args.from (omega arith)
+-- at the last place all are written
+all : (out part now : List ℕ) (from k m n j : ℕ) → k ≤ length out → n ≡ m → length part ≡ m → j ≡ m → now ≡ over (numbers from j) part → put_mid k n out now ≡ over (take k out ++ numbers from m) out
+all out part now from k m n j h e l s so =
+    let is : now ≡ numbers from m = so ∙ ap (λ (i : ℕ). over (numbers from i) part) s ∙ over_all (numbers from m) part (length_numbers m from ∙ sym l) in
+    over_mid out k h n now (ap length is ∙ length_numbers m from ∙ sym e) ∙ ap (λ (ys : List ℕ). over (take k out ++ ys) out) is
 
-pub loop-id-preserved : goal.loop-id-preserved
-loop-id-preserved c = one_more c.loop-id.out c.args.out.now c.args.k c.args.from c.loop-id.id (omega arith) (omega arith) c.loop-id.invariant
+pub loop-j-init : goal.loop-j-init
+loop-j-init c = none_yet _ c.args.from
+
+pub loop-j-preserved : goal.loop-j-preserved
+loop-j-preserved c = one_more c.loop-j.place-items _ c.args.from c.loop-j.j c.loop-j-test.true c.loop-j.invariant
+
+pub returns : goal.returns
+returns c =
+    let out = c.args.out.now in
+    let k = c.args.k in
+    let m : ℕ = c.args.to - c.args.from in
+    let n : k + m - k ≡ m = omega arith in
+    let long : length (take (k + m - k) (drop k out)) ≡ m = length-take-le (k + m - k) (drop k out) (omega (arith, length-drop k out)) ∙ n in
+    (refl, all out _ c.loop-j.place-items c.args.from k m (k + m - k) c.loop-j.j (omega arith) n long (omega (arith, long, c.loop-j-test.false)) c.loop-j.invariant)
