@@ -4,7 +4,6 @@ ghost use Rattle.std.specs.Prelude.{◌≡◌, ◌++◌, ◌+◌, ◌-◌, ◌*�
 ghost use Rattle.base.specs.Parts.{over};
 ghost use Rattle.codec.specs.Bits.{bits_of, value_of, low_bits, pack_bits, AreBytes};
 ghost use Rattle.codec.specs.Inside.Windows.{Window};
-ghost use Rattle.codec.specs.Inside.Writers.{stream_of, Fresh, Ready, Wrote};
 
 // Bit `at` of the slice, if it has one.
 pub(crate) fn bit_at(bytes: &[u8], at: usize) -> Option<bool>
@@ -74,9 +73,13 @@ pub(crate) struct BitWriter<'a> {
     pub(crate) at: usize,
     pub(crate) acc: u64,
     pub(crate) pending: u32,
+    ghost few: { pending < 32 },
+    ghost low: { acc < 2 ^ pending },
 }
 
 impl<'a> BitWriter<'a> {
+    ghost use Rattle.codec.specs.Inside.Writers.{stream_of, Fresh, Ready, Wrote};
+
     // A writer at the front of a buffer.
     pub(crate) fn new(out: &'a mut [u8]) -> Self
         ensures same_reference { result.out.ghost_name ≡ out.entry.ghost_name }
@@ -98,16 +101,17 @@ impl<'a> BitWriter<'a> {
         ensures wrote { Wrote self.old self.new (low_bits count value) }
     {
         let acc = self.acc + (value << self.pending);
-        self.pending += count;
-        if self.pending < 32 {
+        let pending = self.pending + count;
+        if pending < 32 {
             self.acc = acc;
+            self.pending = pending;
             return;
         }
         let end = self.at + 4;
         self.out[self.at..end].copy_from_slice(&acc.to_le_bytes()[..4]);
         self.at = end;
         self.acc = acc >> 32;
-        self.pending -= 32;
+        self.pending = pending - 32;
     }
 
     // The bits written as bytes, the last padded with zeros: how many.

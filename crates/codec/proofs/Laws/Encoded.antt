@@ -65,9 +65,7 @@ module _ (N : ℕ) (ids : List ℕ) (body : List Bool) (is : body ≡ body_bits 
 
 -- a writer at the front of a buffer that the payload fits
 pub ready_front : (N : ℕ) (ids out : List ℕ) (f : BitWriter) → Fresh out f → length (encode_set N ids) ≤ length out → Ready f (length (set_bits N ids))
-ready_front N ids out f is h =
-    let small : f.acc < 2 ^ f.pending = rw (is.empty, is.none) (omega arith) in
-    record { few = omega (arith, is.none); small = small; room = omega (arith, is.front, is.none, ap length is.buffer, length_payload N ids, h) }
+ready_front N ids out f is h = omega (arith, is.front, is.none, ap length is.buffer, length_payload N ids, h)
 
 -- the length and then the body, written one behind the other
 pub set_written : (N : ℕ) (ids : List ℕ) (w v r : BitWriter) → Wrote w v (delta (length ids)) → Wrote v r (body_bits (regime N (length ids)) N ids) → Wrote w r (set_bits N ids)

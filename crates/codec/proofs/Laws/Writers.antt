@@ -10,11 +10,9 @@ use lib.Seq.{drop-drop}
 use Rattle.codec.specs.Inside.Writers.{stream_of, Ready, Wrote}
 use Rattle.codec.specs.declared.bits.BitWriter.{BitWriter}
 
-pub wrote_none : (w : BitWriter) (spare : ℕ) → Ready w spare → Wrote w w []
-wrote_none w spare r = record {
+pub wrote_none : (w : BitWriter) → Wrote w w []
+wrote_none w = record {
   stream = sym (append-nil (stream_of w));
-  few = r.few;
-  small = r.small;
   forth = le_refl w.at;
   place = omega arith;
   size = refl;
@@ -28,8 +26,6 @@ module _ (w v : BitWriter) (xs : List Bool) (a : Wrote w v xs) where
       let n : v.at + (r.at - v.at) ≡ r.at = omega (arith, b.forth) in
       record {
         stream = b.stream ∙ ap (λ (l : List Bool). l ++ ys) a.stream ∙ append_assoc (stream_of w) xs ys;
-        few = b.few;
-        small = b.small;
         forth = le_trans a.forth b.forth;
         place = omega (arith, a.place, b.place, length-append xs ys);
         size = b.size ∙ a.size;
@@ -42,8 +38,4 @@ module _ (w v : BitWriter) (xs : List Bool) (a : Wrote w v xs) where
 
   -- and room is left for what was not written yet
   pub ready_after : (spare more : ℕ) → Ready w spare → length xs + more ≤ spare → Ready v more
-  ready_after spare more r h = record {
-    few = a.few;
-    small = a.small;
-    room = omega (arith, r.room, a.place, a.size);
-  }
+  ready_after spare more r h = omega (arith, r, a.place, a.size)

@@ -19,16 +19,12 @@ pub record Fresh (out : List ℕ) (w : BitWriter) : Type 0 where
   pub bytes : AreBytes out
 
 -- a writer with room for `spare` bits more
-pub record Ready (w : BitWriter) (spare : ℕ) : Type 0 where
-  pub few : w.pending < 32
-  pub small : w.acc < 2 ^ w.pending
-  pub room : 8 * w.at + w.pending + spare ≤ 8 * length w.out.now
+abbrev pub Ready : BitWriter → ℕ → Type 0
+Ready w spare = 8 * w.at + w.pending + spare ≤ 8 * length w.out.now
 
 -- a writer after `bits` were put behind its own; what lies behind its place is as it was
 pub record Wrote (w r : BitWriter) (bits : List Bool) : Type 0 where
   pub stream : stream_of r ≡ stream_of w ++ bits
-  pub few : r.pending < 32
-  pub small : r.acc < 2 ^ r.pending
   pub forth : w.at ≤ r.at
   pub place : 8 * r.at + r.pending ≡ 8 * w.at + w.pending + length bits
   pub size : length r.out.now ≡ length w.out.now

@@ -13,7 +13,7 @@ use Rattle.codec.proofs.bitmap.write_map.Goals.{After-push}
 pub loop-base-init : goal.loop-base-init
 loop-base-init c =
     let a = c.args in
-    ([], mapping_start a.set.colors.n a.set.ids.now a.set.within, wrote_none a.w.now a.set.colors.n c.requires, refl)
+    ([], mapping_start a.set.colors.n a.set.ids.now a.set.within, wrote_none a.w.now, refl)
 
 pub push-requires-clause-ready : goal.push-requires-clause-ready
 push-requires-clause-ready c =

@@ -11,7 +11,7 @@ use Rattle.codec.proofs.Laws.Writers.{wrote_none, wrote_then, ready_after}
 use Rattle.codec.proofs.gaps.write_gaps.Goals as goal
 
 pub loop-id-init : goal.loop-id-init
-loop-id-init g c = let s = c.args.set in ([], coding_start g.C.CodedIds.dense s.colors.n s.ids.now s.within, wrote_none c.args.w.now _ c.requires, refl)
+loop-id-init g c = let s = c.args.set in ([], coding_start g.C.CodedIds.dense s.colors.n s.ids.now s.within, wrote_none c.args.w.now, refl)
 
 pub write_delta-requires : goal.write_delta-requires
 write_delta-requires g c =

@@ -1,6 +1,5 @@
 -- `sets::encode_source_set` meets its contract.
 use mathlib.Core.Path.{refl, sym, ◌∙◌, subst}
-use mathlib.Core.List.{[]}
 use native.Mathlib.Omega.{arith}
 use borrow.Author.Rules.{rules}
 use lib.ListN.{length}
@@ -8,7 +7,7 @@ use Rattle.codec.specs.Bits.{AreBytes}
 use Rattle.codec.specs.Codes.{delta}
 use Rattle.codec.specs.Sets.{set_bits}
 use Rattle.codec.proofs.Laws.Encoded.{few_ids, set_length, ready_front, set_written, encoded}
-use Rattle.codec.proofs.Laws.Writers.{wrote_none, ready_after}
+use Rattle.codec.proofs.Laws.Writers.{ready_after}
 use Rattle.codec.proofs.sets.encode_source_set.Goals as goal
 
 pub overflow_cast-set : goal.overflow_cast-set
@@ -19,7 +18,7 @@ write_delta-requires c =
     let s = c.args.set in
     let r = ready_front s.colors.n s.ids.now c.args.out.now c.new-w.result c.new-w.ensures.front c.requires in (
       omega (arith, few_ids s.colors.n s.ids.now s.within),
-      ready_after c.new-w.result c.new-w.result [] (wrote_none c.new-w.result _ r) _ _ r (omega (arith, set_length s.colors.n s.ids.now _ refl)),
+      omega (arith, r, set_length s.colors.n s.ids.now _ refl),
     )
 
 pub write_body-requires : goal.write_body-requires

@@ -29,7 +29,7 @@ pub returns-in-Empty-clause-wrote : goal.returns-in-Empty-clause-wrote
 returns-in-Empty-clause-wrote c =
     let a = c.args in
     let b = body_empty a.set.colors.n a.set.ids.now c.kind_of.result c.kind_of.ensures c.in-Empty.is in
-    subst (Wrote a.w.now a.w.now) b (wrote_none a.w.now _ c.requires)
+    subst (Wrote a.w.now a.w.now) b (wrote_none a.w.now)
 
 pub returns-in-Sparse-clause-wrote : goal.returns-in-Sparse-clause-wrote
 returns-in-Sparse-clause-wrote c =

@@ -17,6 +17,6 @@ returns-clause-packed c =
     let n = c.div_ceil-len.result in
     let put = placed w.out.now c.copy_from_slice.new.self w.at n (w.at + n - w.at) w.acc (omega arith) (omega (arith, c.div_ceil-len.ensures)) (omega (arith, c.div_ceil-len.ensures)) (c.copy_from_slice.ensures.after ∙ ap (take n) c.to_le_bytes.ensures) in
     let new = put_mid w.at (w.at + n - w.at) w.out.now c.copy_from_slice.new.self in
-    let p : pack_bits (stream_of w) ≡ take (w.at + n) new = packed_end w.out.now new w.at n w.acc w.pending put c.requires.1 c.requires.0.small (omega (arith, c.div_ceil-len.ensures)) (omega (arith, c.div_ceil-len.ensures)) in
+    let p : pack_bits (stream_of w) ≡ take (w.at + n) new = packed_end w.out.now new w.at n w.acc w.pending put c.requires.1 w.low (omega (arith, c.div_ceil-len.ensures)) (omega (arith, c.div_ceil-len.ensures)) in
     let inside : w.at + n ≤ length new = omega (arith, put.size, c.div_ceil-len.ensures) in
     (sym (length-take-le (w.at + n) new inside) ∙ ap length (sym p), sym (take-append-drop (w.at + n) new) ∙ ap₂ (λ (x y : List ℕ). x ++ y) (sym p) put.kept)
