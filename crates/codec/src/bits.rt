@@ -1,4 +1,6 @@
 // Bits of a byte slice, lowest first, and a writer of bits.
+// Bytes and bit place are plain parameters, as the specification names this form for the readers of codes above, so
+// a function says itself how long the bytes are at most.
 // `as` below: no `From` leads from u32 to usize.
 ghost use Rattle.std.specs.Prelude.{◌≡◌, ◌++◌, ◌+◌, ◌-◌, ◌*◌, ◌<◌, ◌≤◌, ◌^◌, length, slice_get, take, drop};
 ghost use Rattle.base.specs.Parts.{over};
@@ -66,7 +68,8 @@ pub(crate) fn bits_at(bytes: &[u8], at: usize, b: usize) -> u64
 }
 
 // A writer of bits over a lent buffer: `at` whole bytes are written, and the low `pending` bits of
-// `acc` wait.
+// `acc` wait. Whoever takes one by `&mut` ensures that `out` keeps its ghost name: else a caller doesn't know that
+// the bits went to its own buffer.
 #[derive(Drop)]
 pub(crate) struct BitWriter<'a> {
     pub(crate) out: &'a mut [u8],

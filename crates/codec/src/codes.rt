@@ -1,4 +1,6 @@
 // Elias gamma and delta codes.
+// Bytes and bit place are plain parameters, as the specification names this form, so each reader says itself how
+// long the bytes are at most.
 // `as` below: no `From` leads from u64 to u32, or from either to usize, and no number is cut by it, which is proved.
 ghost use Rattle.std.specs.Prelude.{◌≡◌, ◌+◌, ◌-◌, ◌*◌, ◌/◌, ◌%◌, ◌<◌, ◌≤◌, ◌^◌, length};
 ghost use Rattle.codec.specs.Bits.{low_bits};

@@ -1,4 +1,4 @@
--- `codec::bits_at` meets its contract: the bits are those of a window.
+-- `bits::bits_at` meets its contract: the bits are those of a window.
 use Prim.Native.Nat.{◌≤◌}
 use mathlib.Core.Path.{sym}
 use native.Mathlib.Nat.{mod-lt}

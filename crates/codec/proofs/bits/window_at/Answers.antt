@@ -1,4 +1,4 @@
--- `codec::window_at` meets its contract.
+-- `bits::window_at` meets its contract.
 use mathlib.Core.Path.{ap}
 use native.Mathlib.Omega.{arith}
 use lib.ListN.{drop, drop_of_length-le}

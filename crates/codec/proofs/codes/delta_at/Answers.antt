@@ -1,4 +1,4 @@
--- `codec::delta_at` meets its contract.
+-- `codes::delta_at` meets its contract.
 use native.Mathlib.Omega.{arith}
 use Rattle.codec.specs.Codes.{read_delta, read_low}
 use Rattle.codec.proofs.Laws.Codes.{delta_from, delta_large}

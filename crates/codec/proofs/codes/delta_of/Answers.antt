@@ -1,4 +1,4 @@
--- `codec::delta_of` meets its contract.
+-- `codes::delta_of` meets its contract.
 use mathlib.Core.Path.{refl}
 use native.Mathlib.Omega.{arith}
 use Rattle.codec.proofs.Laws.Windows.{delta_of_lem}

@@ -1,4 +1,4 @@
--- `codec::delta_word` meets its contract: the gamma code of the highest set bit, and the bits below it.
+-- `codes::delta_word` meets its contract: the gamma code of the highest set bit, and the bits below it.
 use Prim.Native.Nat.{ℕ, ◌+◌, ◌-◌, ◌*◌, ◌%◌, ◌^◌, ◌≤◌, ◌<◌}
 use mathlib.Core.Path.{◌≡◌, sym, ap, ◌∙◌, subst}
 use native.Mathlib.Nat.{lt_of_lt_of_le}

@@ -1,4 +1,4 @@
--- `codec::gamma_value` meets its contract, by the table's rule.
+-- `codes::gamma_value` meets its contract, by the table's rule.
 use native.Mathlib.Omega.{arith}
 use Rattle.codec.proofs.Laws.Tables.{gamma_is}
 use Rattle.codec.proofs.codes.gamma_value.Goals as goal

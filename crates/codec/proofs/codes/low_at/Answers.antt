@@ -1,4 +1,4 @@
--- `codec::low_at` meets its contract.
+-- `codes::low_at` meets its contract.
 use Prim.Native.Nat.{◌*◌, ◌%◌, ◌^◌, ◌≤◌, ◌<◌}
 use mathlib.Core.Path.{◌≡◌}
 use native.Mathlib.Nat.{one-mul, mod-eq_of_lt}

@@ -1,4 +1,4 @@
--- `codec::top_len` meets its contract, by the table's rule.
+-- `codes::top_len` meets its contract, by the table's rule.
 use mathlib.Core.Path.{◌∙◌}
 use native.Mathlib.Omega.{arith}
 use Rattle.codec.proofs.Laws.Tables.{len_is}

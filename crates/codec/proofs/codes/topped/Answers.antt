@@ -1,4 +1,4 @@
--- `codec::topped` meets its contract.
+-- `codes::topped` meets its contract.
 use Prim.Native.Nat.{ℕ, ◌+◌, ◌*◌, ◌%◌, ◌^◌, ◌≤◌, ◌<◌}
 use mathlib.Core.Path.{◌≡◌, refl}
 use native.Mathlib.Nat.{one-mul, mod-eq_of_lt, mod-lt}
