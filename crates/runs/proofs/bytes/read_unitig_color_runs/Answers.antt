@@ -1,14 +1,13 @@
 -- `runs::bytes::read_unitig_color_runs` meets its contract.
 use Rattle.std.proofs.Common.{length, length-drop, drop, sym, ap, arith, ◌*◌}
-use Rattle.std.proofs.lemmas.Result.{err_from_is_err_and}
+use Rattle.codec.proofs.Laws.Refusals.{passed_on}
 use Rattle.runs.specs.Inside.Blocks.{runs_of}
 use Rattle.runs.proofs.Laws.Bytes.{length_words, read_none, read_3, read_done}
 use Rattle.runs.proofs.bytes.read_unitig_color_runs.Goals as goal
 
 pub returns-in_err-list : goal.returns-in_err-list
 returns-in_err-list c =
-    let p = err_from_is_err_and c.from_residual.result c.from_residual.ensures.1 in
-    rw (p.1, p.2) (read_none c.args.bytes.now _ c.in_err-list.ensures c.args.out.now)
+    rw (passed_on c.from_residual.ensures.1) (read_none c.args.bytes.now _ c.in_err-list.ensures c.args.out.now)
 
 pub returns-then-out-list : goal.returns-then-out-list
 returns-then-out-list c =

@@ -1,10 +1,10 @@
 -- `runs::bytes::sharp_color_at` meets its contract.
 use Rattle.std.proofs.Common.{ℕ, sym, ap, ◌∙◌, [], ◌∷◌}
-use Rattle.std.proofs.lemmas.Result.{err_from_is_err_and}
 use borrow.Author.Tests.{le-leb, lt-leb}
 use Rattle.base.specs.Answers.{done}
 use Rattle.base.proofs.Bools.{not_no, not_yes}
 use Rattle.base.proofs.Tests.{when_yes, when_no}
+use Rattle.codec.proofs.Laws.Refusals.{passed_on}
 use Rattle.runs.specs.Bytes.{sharp_colour, sharp_colour_in}
 use Rattle.runs.proofs.Laws.Bytes.{color_none}
 use Rattle.runs.proofs.bytes.sharp_color_at.Goals as goal
@@ -16,8 +16,7 @@ returns-then-n-vertex c = sym (when_yes _ _ _ (le-leb _ _ c.if-n-vertex.true))
 pub returns-in_err-list : goal.returns-in_err-list
 unfolding sharp_colour
 returns-in_err-list c =
-    let p = err_from_is_err_and c.from_residual.result c.from_residual.ensures.1 in
-    rw (p.1, p.2) (color_none c.args.bytes.now _ c.in_err-list.ensures c.args.n c.args.vertex ∙ sym (when_no _ _ _ (lt-leb _ _ c.if-n-vertex.false)))
+    rw (passed_on c.from_residual.ensures.1) (color_none c.args.bytes.now _ c.in_err-list.ensures c.args.n c.args.vertex ∙ sym (when_no _ _ _ (lt-leb _ _ c.if-n-vertex.false)))
 
 pub returns-then-not-are_sharp : goal.returns-then-not-are_sharp
 unfolding sharp_colour sharp_colour_in

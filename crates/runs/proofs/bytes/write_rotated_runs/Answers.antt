@@ -1,6 +1,6 @@
 -- `runs::bytes::write_rotated_runs` meets its contract.
 use Rattle.std.proofs.Common.{List, ℕ, length, sym, ap, ◌∙◌, arith}
-use Rattle.std.proofs.lemmas.Result.{err_from_is_err_and}
+use Rattle.codec.proofs.Laws.Refusals.{passed_on}
 use Rattle.runs.specs.Bytes.{write_runs}
 use Rattle.runs.proofs.Laws.Cursor.{rotate_few}
 use Rattle.runs.proofs.Laws.Turned.{gives_ahead, yields_ahead}
@@ -9,8 +9,7 @@ use Rattle.runs.proofs.bytes.write_rotated_runs.Goals as goal
 
 pub returns-in_err-check_steady : goal.returns-in_err-check_steady
 returns-in_err-check_steady c =
-    let p = err_from_is_err_and c.from_residual.result c.from_residual.ensures.1 in
-    rw (p.1, p.2) (rotated_refused _ _ _ _ _ _ c.in_err-check_steady.ensures)
+    rw (passed_on c.from_residual.ensures.1) (rotated_refused _ _ _ _ _ _ c.in_err-check_steady.ensures)
 
 pub write-requires : goal.write-requires
 write-requires c = yields_ahead c.turned-cycle.result _ tt (omega (arith, c.count-count.ensures))

@@ -1,7 +1,7 @@
 -- `runs::reverse::orient_color_runs` meets its contract.
 use Rattle.std.proofs.Common.{ℕ, List, sym, ap, ◌∙◌, arith}
-use Rattle.std.proofs.lemmas.Result.{err_from_is_err_and}
 use Rattle.base.specs.Parts.{over}
+use Rattle.codec.proofs.Laws.Refusals.{passed_on}
 use Rattle.runs.specs.Reverse.{oriented}
 use Rattle.runs.proofs.Laws.Reverse.{oriented_long}
 use Rattle.runs.proofs.Laws.Fill.{shifted_none}
@@ -10,8 +10,7 @@ use Rattle.runs.proofs.reverse.orient_color_runs.Goals as goal
 
 pub returns-in_err-check_steady : goal.returns-in_err-check_steady
 returns-in_err-check_steady c =
-    let p = err_from_is_err_and c.from_residual.result c.from_residual.ensures.1 in
-    rw (p.1, p.2) (list_refused _ _ _ _ _ c.in_err-check_steady.ensures)
+    rw (passed_on c.from_residual.ensures.1) (list_refused _ _ _ _ _ c.in_err-check_steady.ensures)
 
 pub returns-then-out-runs : goal.returns-then-out-runs
 returns-then-out-runs c =

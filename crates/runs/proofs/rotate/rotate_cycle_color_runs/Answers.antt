@@ -1,15 +1,14 @@
 -- `runs::rotate::rotate_cycle_color_runs` meets its contract.
 use Rattle.std.proofs.Common.{ℕ, ◌<◌, List, length, ap, subst, ◌∙◌, arith}
-use Rattle.std.proofs.lemmas.Result.{err_from_is_err_and}
 use Rattle.base.specs.Parts.{over}
+use Rattle.codec.proofs.Laws.Refusals.{passed_on}
 use Rattle.runs.proofs.Laws.Turned.{gives_ahead, yields_ahead}
 use Rattle.runs.proofs.Laws.Answers.{list_refused, list_3, list_done}
 use Rattle.runs.proofs.rotate.rotate_cycle_color_runs.Goals as goal
 
 pub returns-in_err-check_steady : goal.returns-in_err-check_steady
 returns-in_err-check_steady c =
-    let p = err_from_is_err_and c.from_residual.result c.from_residual.ensures.1 in
-    rw (p.1, p.2) (list_refused _ _ _ _ _ c.in_err-check_steady.ensures)
+    rw (passed_on c.from_residual.ensures.1) (list_refused _ _ _ _ _ c.in_err-check_steady.ensures)
 
 pub returns-then-out-count : goal.returns-then-out-count
 returns-then-out-count c =
