@@ -3,7 +3,7 @@
 ghost use Rattle.std.specs.Prelude.{◌≡◌, ◌<◌, ◌≤◌, length, take};
 ghost use Rattle.shell.specs.Digits.{hex_digit_ascii, last_digits, IsDigitCount};
 
-// '0' to '9', then 'a' to 'f'.
+// '0' to '9', then 'a' to 'f'. std's `char::from_digit` answers with an Option of a char, which would be unwrapped and cut back to a byte.
 pub(crate) fn glyph(d: u8) -> u8
     requires { d < 16 }
     ensures { result ≡ hex_digit_ascii d }

@@ -1,8 +1,17 @@
 // Bytes as hexadecimal digits, two a byte.
-ghost use Rattle.std.specs.Prelude.{◌≡◌};
-ghost use Rattle.shell.specs.Hexes.{unhex_at};
+ghost use Rattle.std.specs.Prelude.{◌≡◌, ◌<◌, IfSome};
+ghost use Rattle.shell.specs.Hexes.{digit_of, unhex_at};
 
 use crate::reasons::Fault;
+
+// The digit that a byte says.
+#[tactic(auto, using(crate::proofs::Laws::Hexes::digit_is))]
+fn digit_of(b: u8) -> Option<u32>
+    ensures said { result ≡ digit_of b }
+    ensures within { IfSome result (λ d. d < 16) }
+{
+    char::from(b).to_digit(16)
+}
 
 // The bytes that a text says, to the front of `out`; answers how many they are. `as`: two digits fit a byte, for which `try_from` would
 // add a case that can't come.
@@ -13,8 +22,8 @@ pub fn unhex(text: &[u8], out: &mut [u8]) -> Result<usize, Fault>
         let [high, low] = digits else {
             return Err(Fault::Hex);
         };
-        let high = char::from(*high).to_digit(16).ok_or(Fault::Hex)?;
-        let low = char::from(*low).to_digit(16).ok_or(Fault::Hex)?;
+        let high = digit_of(*high).ok_or(Fault::Hex)?;
+        let low = digit_of(*low).ok_or(Fault::Hex)?;
         // By index: no clause says what a slice holds after its `get_mut`.
         if out.len() <= k {
             return Err(Fault::Many);

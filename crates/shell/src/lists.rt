@@ -59,7 +59,8 @@ pub fn item_at<T: Word>(line: &[u8], at: usize) -> Result<Option<Item<T>>, Fault
 }
 
 // What the words up to the end of the line say, to the front of `out`; answers how many there are. The turns are counted by the line's
-// bytes, of which each word takes one at least.
+// bytes, of which each word takes one at least. Not by an iterator of items: a word that can't be read says no place behind it, so the
+// iterator would need a mark of its own to end.
 pub fn list_at<T: Word>(line: &[u8], from: usize, out: &mut [T]) -> Result<usize, Fault>
     ensures { (result, out.new) ≡ list_from T.said (length line.now) line.now from 0 out.old }
 {

@@ -1,6 +1,6 @@
 // Decimal numbers.
-ghost use Rattle.std.specs.Prelude.{◌≡◌, ◌≤◌, IfOk};
-ghost use Rattle.shell.specs.Numbers.{decimal_of, fault_of_number};
+ghost use Rattle.std.specs.Prelude.{◌≡◌, ◌<◌, ◌≤◌, IfOk, IfSome};
+ghost use Rattle.shell.specs.Numbers.{digit_of, decimal_of, fault_of_number};
 
 use crate::reasons::Fault;
 
@@ -25,7 +25,16 @@ impl NumberError {
     }
 }
 
-// The number that a text says, if it is at most `most`.
+// The digit that a byte says.
+#[tactic(auto, using(crate::proofs::Laws::Numbers::digit_is))]
+fn digit_of(b: u8) -> Option<u32>
+    ensures said { result ≡ digit_of b }
+    ensures within { IfSome result (λ d. d < 10) }
+{
+    char::from(b).to_digit(10)
+}
+
+// The number that a text says, if it is at most `most`. Not by std's `parse`: it takes a `+` in front, reads a str, and knows no bound but its type's.
 pub(crate) fn number_to(text: &[u8], most: u64) -> Result<u64, NumberError>
     requires { most ≤ 1000000000000000000 }
     ensures said { result ≡ decimal_of most text.now }
@@ -36,7 +45,7 @@ pub(crate) fn number_to(text: &[u8], most: u64) -> Result<u64, NumberError>
     }
     let mut value: u64 = 0;
     for b in text {
-        let digit = char::from(*b).to_digit(10).ok_or(NumberError::Bad)?;
+        let digit = digit_of(*b).ok_or(NumberError::Bad)?;
         value = value * 10 + u64::from(digit);
         if most < value {
             return Err(NumberError::Large);

@@ -24,7 +24,8 @@ impl<'a> Words<'a> {
         Words { line, at: 0 }
     }
 
-    // The next word.
+    // The next word. Not as an `Iterator`: its `next_gives` would have to say these two clauses over again, and no caller takes word after word
+    // in a `for`: a command takes each as what has to stand there, by this method or by `value`.
     pub fn next(&mut self) -> Option<&'a [u8]>
         ensures line { self.new.line.now ≡ self.old.line.now }
         ensures word { (option_copied result, self.new.at) ≡ taken self.old.line.now self.old.at (field_at self.old.line.now self.old.at) }
