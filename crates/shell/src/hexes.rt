@@ -4,7 +4,7 @@ ghost use Rattle.shell.specs.Hexes.{digit_of, unhex_at};
 
 use crate::reasons::Fault;
 
-// The digit that a byte says.
+// The hexadecimal digit that a byte says: std's, in the specification's words.
 #[tactic(auto, using(crate::proofs::Laws::Hexes::digit_is))]
 fn digit_of(b: u8) -> Option<u32>
     ensures said { result ≡ digit_of b }

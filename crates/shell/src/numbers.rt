@@ -25,7 +25,7 @@ impl NumberError {
     }
 }
 
-// The digit that a byte says.
+// The decimal digit that a byte says: std's, in the specification's words. hexes.rt has another, since those have a definition for each base.
 #[tactic(auto, using(crate::proofs::Laws::Numbers::digit_is))]
 fn digit_of(b: u8) -> Option<u32>
     ensures said { result ≡ digit_of b }
