@@ -26,11 +26,13 @@ all out part now from k m n j h e l s so =
     let is : now ≡ numbers from m = so ∙ ap (λ (i : ℕ). over (numbers from i) part) s ∙ over_all (numbers from m) part (length_numbers m from ∙ sym l) in
     over_mid out k h n now (ap length is ∙ length_numbers m from ∙ sym e) ∙ ap (λ (ys : List ℕ). over (take k out ++ ys) out) is
 
-pub loop-j-init : goal.loop-j-init
-loop-j-init c = none_yet _ c.args.from
+pub loop-place-init : goal.loop-place-init
+loop-place-init c = (omega arith, none_yet _ c.args.from)
 
-pub loop-j-preserved : goal.loop-j-preserved
-loop-j-preserved c = one_more c.loop-j.place-items _ c.args.from c.loop-j.j c.loop-j-test.true c.loop-j.invariant
+pub loop-place-preserved : goal.loop-place-preserved
+loop-place-preserved c =
+    let i = c.loop-place.invariant in
+    (omega (arith, i.0), ap (λ (x : ℕ). set c.loop-place.place-items c.loop-place.place-index x) i.0 ∙ one_more c.loop-place.place-items _ c.args.from c.loop-place.place-index c.loop-place-test.true i.1)
 
 pub returns : goal.returns
 returns c =
@@ -39,4 +41,4 @@ returns c =
     let m : ℕ = c.args.to - c.args.from in
     let n : k + m - k ≡ m = omega arith in
     let long : length (take (k + m - k) (drop k out)) ≡ m = length-take-le (k + m - k) (drop k out) (omega (arith, length-drop k out)) ∙ n in
-    (refl, all out _ c.loop-j.place-items c.args.from k m (k + m - k) c.loop-j.j (omega arith) n long (omega (arith, long, c.loop-j-test.false)) c.loop-j.invariant)
+    (refl, all out _ c.loop-place.place-items c.args.from k m (k + m - k) c.loop-place.place-index (omega arith) n long (omega (arith, long, c.loop-place-test.false)) c.loop-place.invariant.1)
