@@ -103,6 +103,8 @@ impl Cell {
             ensures { result ≡ add_test filed.entry.colors filed.entry.cell ids.entry.now }
         { filed.add_test(ids) };
         let gate = self.gate(number, same, test);
+        // a match, as in close and join: by `map_or_else` nothing would be known of the buffers where the closure that they
+        // are lent to isn't called
         match gate.transpose() {
             Some(answer) => Told {
                 state: self,
@@ -130,6 +132,7 @@ impl Store {
         ensures { (of_answer result.answer, result.state, bufs records.new index.new opened.now held.now runs.now table.now)
             ≡ add_step self (bufs records.old index.old opened.now held.now runs.now table.now) number ids.now }
     {
+        // this head stands in each of the four calls: no `?` can return it, since the state goes back beside the answer
         if self.altered(Lengths::of(records, index, opened, held, runs, table)) {
             return Told {
                 state: self,

@@ -4,7 +4,7 @@ ghost use Rattle.std.specs.Prelude.{◌≡◌, ◌<◌, length};
 ghost use Rattle.store.specs.State.{bufs, of_answer};
 ghost use Rattle.store.specs.Join.{all_named, same_join, open_count, open_at, open_space, join_test, join_filed, join_cell, join_step};
 ghost use Rattle.store.specs.Inside.Fits.{JoinFits, JoinReady, OpenReady, open_after};
-ghost use Rattle.store.specs.Inside.Joining.{meet_test};
+ghost use Rattle.store.specs.Inside.Joining.{meet_test, of_piece};
 
 use crate::lengths::Lengths;
 use crate::opened::OpenRuns;
@@ -69,7 +69,7 @@ impl OpenRuns<'_> {
     #[tactic(auto, using(base::proofs::Tests::tests, crate::proofs::Laws::Joining::new_runs, runs::proofs::Laws::Reverse::oriented_long), unfolding(crate::specs::Join::open_test))]
     fn meet_open(self, m: u32, piece: Piece) -> Result<(), Refusal>
         requires { (self.cell.current ≡ Current.Open m) × (0 < length piece.runs.now) }
-        ensures { result ≡ meet_test self.entry.cell self.entry.runs.now piece.entry.n piece.entry.reversed piece.entry.runs.now }
+        ensures { result ≡ of_piece (meet_test self.entry.cell self.entry.runs.now) piece.entry }
     {
         let Piece { n, reversed, runs } = piece;
         if !runs::orders::is_sharp(self.runs, m) {
@@ -87,7 +87,7 @@ impl OpenRuns<'_> {
     #[tactic(auto, using(base::proofs::Tests::tests, runs::proofs::Laws::Reverse::oriented_long), unfolding(crate::specs::Join::open_test, crate::specs::Join::open_new))]
     fn meet(self, piece: Piece) -> Result<(), Refusal>
         requires { 0 < length piece.runs.now }
-        ensures { result ≡ meet_test self.entry.cell self.entry.runs.now piece.entry.n piece.entry.reversed piece.entry.runs.now }
+        ensures { result ≡ of_piece (meet_test self.entry.cell self.entry.runs.now) piece.entry }
     {
         match self.cell.current {
             Current::Nothing => self.open_space(piece.runs.len(), piece.runs.len()),
@@ -98,7 +98,7 @@ impl OpenRuns<'_> {
     // Refusal 7, vertex count; 6, not sharp; 9, a coordinate that names no set; then 5, 8, 3.
     #[tactic(auto, using(base::proofs::Tests::tests, crate::proofs::Laws::Joining::some_runs, crate::proofs::Laws::Parts::take_whole), unfolding(crate::specs::Join::join_test))]
     fn join_test(self, piece: Piece) -> Result<(), Refusal>
-        ensures { result ≡ join_test self.entry.cell self.entry.runs.now piece.entry.n piece.entry.reversed piece.entry.runs.now }
+        ensures { result ≡ of_piece (join_test self.entry.cell self.entry.runs.now) piece.entry }
     {
         if piece.n == 0 || 16777215 < self.cell.new_count(piece.n) {
             return Err(Refusal::Vertices);
@@ -117,7 +117,7 @@ impl Cell {
     // The new open runs, and how many there are then.
     fn put_open(self, piece: Piece, opened: &mut [u64]) -> usize
         requires { OpenReady self piece.n piece.reversed piece.runs.now opened.old }
-        ensures { (result, opened.new) ≡ open_after self piece.entry.n piece.entry.reversed piece.entry.runs.now opened.old }
+        ensures { (result, opened.new) ≡ of_piece (open_after self) piece.entry opened.old }
     {
         let Piece { n, reversed, runs } = piece;
         match self.current {
@@ -141,7 +141,7 @@ impl Cell {
         held: &mut [u64],
     ) -> Told<Cell, u64>
         requires { JoinReady self piece.n piece.reversed piece.runs.now opened.old (length held.old) }
-        ensures { (of_answer result.answer, result.state, opened.new, held.new) ≡ join_filed self number piece.entry.n piece.entry.reversed piece.entry.runs.now opened.old held.old }
+        ensures { (of_answer result.answer, result.state, opened.new, held.new) ≡ of_piece (join_filed self number) piece.entry opened.old held.old }
     {
         let Piece { n, reversed, runs } = piece;
         let total = self.put_open(piece, opened);
@@ -178,7 +178,7 @@ impl Cell {
         held: &mut [u64],
     ) -> Told<Cell, u64>
         requires { JoinFits self (length opened.old) (length held.old) }
-        ensures { (of_answer result.answer, result.state, opened.new, held.new) ≡ join_cell self number piece.entry.n piece.entry.reversed piece.entry.runs.now opened.old held.old }
+        ensures { (of_answer result.answer, result.state, opened.new, held.new) ≡ of_piece (join_cell self number) piece.entry opened.old held.old }
     {
         let open_runs = OpenRuns::of(self, opened);
         let last = self.held.part(held);
@@ -189,7 +189,7 @@ impl Cell {
             self.last == Last::Join { n, reversed } && last == runs
         };
         let test = ||
-            ensures { result ≡ join_test open_runs.entry.cell open_runs.entry.runs.now piece.entry.n piece.entry.reversed piece.entry.runs.now }
+            ensures { result ≡ of_piece (join_test open_runs.entry.cell open_runs.entry.runs.now) piece.entry }
         { open_runs.join_test(piece) };
         let gate = self.gate(number, same, test);
         match gate.transpose() {

@@ -1,4 +1,5 @@
-// How long the buffers are that are lent to a call.
+// How long the buffers are that are lent to a call: in two parts, as the state is, since each part of it tests its own. `Lengths` of shell is the
+// six numbers of a line: shell doesn't know the store.
 ghost use Rattle.std.specs.Prelude.{◌≡◌};
 ghost use Rattle.store.specs.State.{bufs, lengths_of};
 ghost use Rattle.store.specs.Inside.Lent.{all_lent};
@@ -27,7 +28,8 @@ pub struct Lengths {
 
 impl Lengths {
     // How long these buffers are. They stay parameters of their own, here and in each call: which of them a call may write differs from call
-    // to call, and a struct of them all, lent to be written, would ask more of callers.
+    // to call, and a struct of them all, lent to be written, would ask more of callers. The private functions that a call lends its two on to
+    // take them so too: of a struct behind a `&mut` each would first be lent anew in a line of its own.
     pub(crate) fn of(
         records: &[u8],
         index: &[u64],

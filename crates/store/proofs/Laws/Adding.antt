@@ -94,7 +94,7 @@ same_part N c file index last.Add ids h = ap (λ (o : Option (List ℕ)). reads_
 same_part N c file index (last.Join n r) ids h = refl
 same_part N c file index (last.Close v) ids h = refl
 
--- ---- what the gate of an add told
+-- ---- what the gate of an add told: the three laws of every gate (Tested), of what an add is; Closing and Joining have theirs
 
 module _ (N : ℕ) (c : Cell) (i : ℕ) (ids file index : List ℕ) (fits : AddFits N c (length file) (length index)) (g : Gate) (r : std.Option (Result ℕ Refusal))
     (h : g ≡ numbered c i (same_add N c (take c.records.used file) index c.last ids) (add_test N c ids)) (e : r ≡ result_transpose g) where
