@@ -39,7 +39,7 @@ loop-i-preserved c =
     let f = c.one-told.ensures.same_references in
     let m = c.loop-i.auto.shown in
     let h : c.from.result ≡ head_at c.args.calls.now c.loop-i.i =
-        c.from.ensures ∙ ap (λ (ws : List (List ℕ)). head_at (get_or ws c.loop-i.i []) 0) c.as_chunks.ensures.front ∙ head_in (length c.args.calls.now / 6) c.loop-i.i c.args.calls.now (omega (arith, c.loop-i-test.true, c.min-n.ensures, c.min.ensures)) in
+    c.from.ensures ∙ ap (λ (ws : List (List ℕ)). head_at (get_or ws c.loop-i.i []) 0) c.as_chunks.ensures.front ∙ head_in (length c.args.calls.now / 6) c.loop-i.i c.args.calls.now (omega (arith, c.loop-i-test.true, c.min-n.ensures, c.min.ensures)) in
     let w : c.room-room.result ≡ room_by c.from-call.result (length c.args.shown.now - c.loop-i.at) = rw m at r.0 in (
       (f.0 ∙ k.0, f.1 ∙ k.1, f.2 ∙ k.2, f.3 ∙ k.3, f.4 ∙ k.4, f.5 ∙ k.5),
       record {
