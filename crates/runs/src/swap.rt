@@ -29,8 +29,8 @@ fn four_back(runs: &[u64], p: usize, next: u64, top: u64) -> [u64; 4]
     ]
 }
 
-// Four runs from place p on. By index: by `copy_from_slice` reverse in place takes 25% longer at 100,000 runs and 11% at 10,000,000,
-// which misses its lines in docs/BENCHMARK.md.
+// Four runs from place p on. By index: by `copy_from_slice`, which proves, reverse in place takes a quarter to a third longer at 100,000
+// runs and a tenth longer at 10,000,000, which misses its lines in docs/BENCHMARK.md.
 fn put_four(runs: &mut [u64], p: usize, four: [u64; 4])
     requires { p + 3 < length runs.old }
     ensures { runs.new ≡ put_four runs.old p four }
