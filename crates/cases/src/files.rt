@@ -130,6 +130,7 @@ fn pairs_of(alloc: Global, files: &[Option<File>]) -> Result<Vec<Pair>, AllocErr
         for other in files {
             pairs.push(match (one, other) {
                 (Some(one), Some(other)) => one.beside(other),
+                // a line that is no file is told among those that are alone
                 _ => Pair::Alone,
             })?;
         }

@@ -194,7 +194,7 @@ pub(crate) fn same_body(set: ColorSet, source: Source, at: usize) -> Option<usiz
 }
 
 // Whether the payload is the one written for these ids. It stands alone in the machine code, so that the loops in
-// it have the registers.
+// it have the registers. The payload comes as a slice, as to `read_payload`: a `Source` has a word more.
 #[inline(never)]
 pub(crate) fn same_set(set: ColorSet, payload: &[u8]) -> bool
     requires { length payload.now < 2 ^ 60 }

@@ -240,7 +240,8 @@ impl Buffers<'_> {
     }
 }
 
-// As many calls as there are, and as there is room for what is told of them.
+// As many calls as there are, and as there is room for what is told of them. Buffers and lists stay parameters of this and of `session`, as of the
+// store's calls: a struct of them, lent to be written, would ask more of callers.
 pub fn replay(
     begun: Store,
     calls: &[u32],

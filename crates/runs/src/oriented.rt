@@ -71,8 +71,8 @@ impl Shifted<'_> {
         self.fill_rest(&mut out[1..]);
     }
 
-    // The runs behind the first to the front of `out`. That they fit is a clause of this and the two below: list and output meet only in
-    // these calls, and a struct of both would owe the same fact at each.
+    // The runs behind the first to the front of `out`. That they fit is a clause of this and the two below, as of `fill`: list and output
+    // meet only in these calls, and a struct of both would owe the same fact at each.
     pub(crate) fn fill_rest(&self, out: &mut [u64])
         requires { length self.now.list.runs.now ≤ length out.old + 1 }
         ensures { out.new ≡ over (shifted self.now.shift (drop 1 (list_of self.now.list))) out.old }

@@ -51,6 +51,7 @@ fn swap_fours(runs: &mut [u64], n: u32) -> Ends
     let rounds = m / 8;
     let top = u64::from(n);
     let mut behind = top;
+    // By number: each turn reads and writes four runs at both ends of one slice.
     for round in 0..rounds {
         let i = 4 * round;
         let k = m - 4 - i;

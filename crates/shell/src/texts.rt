@@ -5,7 +5,8 @@ ghost use Rattle.shell.specs.Texts.{put_at, Printed};
 
 use crate::digits::{decimal, glyph};
 
-// The text from `at` on, as much of it as there is space for; answers where it ends.
+// The text from `at` on, as much of it as there is space for; answers where it ends. Not by `write!`: the contract is over the bytes of the
+// buffer. Place and buffer stay two parameters, here and in the functions over it: a struct that holds a lent buffer would be made anew at each call.
 pub fn put(text: &[u8], at: usize, out: &mut [u8]) -> usize
     ensures { (result, out.new) ≡ put_at text.now at out.old }
 {

@@ -1,4 +1,5 @@
-// A state and buffers that no call left. Numbers become lengths by `as`, since there is no `From` from u64 to usize.
+// A state and buffers that no call left. Numbers become lengths by `as`, since there is no `From` from u64 to usize; a place of a buffer of bytes takes
+// the low byte of a number.
 // The six buffers are told apart by name twice here and twice in views.rt: some hold bytes and some words, so a function from a name to its buffer
 // would answer with an enum, which each of the four would take apart again.
 use crate::args::{StepError, narrow, size, wide};
