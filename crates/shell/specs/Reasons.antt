@@ -17,7 +17,6 @@ reason_of refusal.Junction = codes "8 piece does not begin where the open unitig
 reason_of refusal.Coordinate = codes "9 coordinate names no set of this store"
 reason_of refusal.Number = codes "10 number is neither the last nor the next"
 reason_of refusal.Arguments = codes "11 last number with another call or other arguments"
-reason_of refusal.Opened = codes "12 a unitig is open"
 reason_of refusal.Unopened = codes "13 no unitig is open"
 reason_of refusal.Place = codes "14 no such closed unitig or vertex"
 reason_of refusal.Altered = codes "15 state or buffers were altered"

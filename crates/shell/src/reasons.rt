@@ -61,7 +61,6 @@ fn reason(r: Refusal) -> &'static [u8]
         Refusal::Coordinate => b"9 coordinate names no set of this store",
         Refusal::Number => b"10 number is neither the last nor the next",
         Refusal::Arguments => b"11 last number with another call or other arguments",
-        Refusal::Opened => b"12 a unitig is open",
         Refusal::Unopened => b"13 no unitig is open",
         Refusal::Place => b"14 no such closed unitig or vertex",
         Refusal::Altered => b"15 state or buffers were altered",

@@ -28,6 +28,7 @@ pub mod Lines
 pub mod Demand
 pub mod Proved
 pub mod History
+pub mod WhileOpen
 pub mod Empty
 -- Worked cases, computed.
 pub mod Cases

@@ -5,9 +5,11 @@ use Rattle.store.specs.Demand.{DemandStatement}
 use Rattle.store.specs.Empty.{EmptySetStatement}
 use Rattle.store.specs.History.{StoresOneHistoryStatement}
 use Rattle.store.specs.Once.{ExactlyOnceStatement}
+use Rattle.store.specs.WhileOpen.{WhileOpenStatement}
 use Rattle.store.proofs.Laws.Empty.{empty_set_lem}
 use Rattle.store.proofs.Laws.History.{stores_one_history}
 use Rattle.store.proofs.Laws.Proved.{demand_3, once_each}
+use Rattle.store.proofs.Laws.WhileOpen.{while_open_lem}
 use Rattle.store.proofs.state.Store.start.Statement as start-s
 use Rattle.store.proofs.state.Store.start.Met as start-m
 use Rattle.store.proofs.state.Store.add.Statement as add-s
@@ -34,6 +36,8 @@ pub record Whole (M : Type 1) : Type 2 where
   pub stores : StoresOneHistoryStatement
   -- the empty set: its add, its record and its show
   pub empty_set : EmptySetStatement
+  -- sets filed while a unitig is open: their add, their record, and what joins name then
+  pub while_open : WhileOpenStatement
 
 pub whole : {M : Type 1} → Whole M
 whole =
@@ -48,4 +52,5 @@ whole =
       files = files_one_history;
       stores = stores_one_history;
       empty_set = empty_set_lem;
+      while_open = while_open_lem;
     }

@@ -1,8 +1,8 @@
--- "What each operation turns down" of 01, with request F-1: add. 12, 2, 3; the record goes behind the used bytes, with one index entry.
-use Rattle.std.specs.Prelude.{ℕ, ◌+◌, Bool, true, false, not, ◌||◌, List, [], ◌∷◌, length, set, ltb, Ok, Err}
+-- "What each operation turns down" of 01, with requests F-1 and F-2: add. 2, 3; the record goes behind the used bytes, with one index entry.
+use Rattle.std.specs.Prelude.{ℕ, ◌+◌, Bool, false, not, ◌||◌, List, [], ◌∷◌, length, set, ltb, Ok, Err}
 use Rattle.base.specs.Answers.{Answer, done, refused}
 use Rattle.base.specs.Tests.{◌when◌else◌}
-use Rattle.base.specs.declared.Refusal.TheVariants.{Ids, Opened, Space}
+use Rattle.base.specs.declared.Refusal.TheVariants.{Ids, Space}
 use Rattle.codec.specs.Records.{record_of}
 use Rattle.codec.specs.Sets.{within}
 use Rattle.runs.specs.Words.{coordinate_of}
@@ -10,16 +10,10 @@ use Rattle.store.specs.Altered.{altered}
 use Rattle.store.specs.Filed.{reads_as, set_at}
 use Rattle.store.specs.Numbered.{Test, by_gate, numbered}
 use Rattle.store.specs.State.{Bufs, Outcome, after, lengths_of, put, with_parts, with_records}
-use Rattle.store.specs.declared.state.Current.{Current}
-use Rattle.store.specs.declared.state.Current.TheVariants.{Nothing, Open}
 use Rattle.store.specs.declared.state.Cell.{Cell}
 use Rattle.store.specs.declared.state.Last.{Last}
 use Rattle.store.specs.declared.state.Last.TheVariants as last
 use Rattle.store.specs.declared.state.Store.{Store}
-
-unfoldable pub unitig_open : Current → Bool
-unitig_open Nothing = false
-unitig_open (Open n) = true
 
 -- a record of so many bytes doesn't fit the rest of the file, or no index entry is free
 unfoldable pub no_space : Cell → ℕ → Bool
@@ -27,9 +21,7 @@ no_space c len = ltb c.records.length (c.records.used + len) || ltb c.index (c.s
 
 unfoldable pub add_test : ℕ → Cell → List ℕ → Test
 add_test N c ids =
-    -- 12, a unitig is open
-    Err Opened when unitig_open c.current else
-    -- 2, ids not strictly ascending or one not below N; no ids are a set (request F-1)
+    -- 2, ids not strictly ascending or one not below N; no ids are a set (request F-1); a unitig may be open (request F-2)
     Err Ids when not (within 0 N ids) else
     -- 3, the record doesn't fit the rest of the file, or no index entry is free
     Err Space when no_space c (length (record_of N ids)) else

@@ -5,7 +5,7 @@ use Rattle.base.specs.Answers.{done}
 use Rattle.base.specs.Tests.{◌when◌else◌}
 use Rattle.codec.specs.Records.{file_of}
 use Rattle.store.specs.Demand.{LentCall, Seen, accepted_from, as_seen, record_file, seen, sent, set_for, showing, store_run, store_step, updating}
-use Rattle.store.specs.Plain.{Plain, Reply, Update, add, answer, coord_at, is_open, no_vertex, plain_fresh, plain_run, refusal}
+use Rattle.store.specs.Plain.{Plain, Reply, Update, add, answer, coord_at, no_vertex, plain_fresh, plain_run, refusal}
 use Rattle.store.specs.Start.{start_step}
 use Rattle.store.specs.State.{Bufs, lengths_of}
 use Rattle.store.specs.declared.state.Store.{Store}
@@ -17,8 +17,6 @@ no_space_for_empty p = ltb p.cell.lengths.records (length (file_of p.N p.cell.S)
 -- what an add of the empty set with the next number is told: never 2
 unfoldable pub empty_reply : Plain → Reply
 empty_reply p =
-    -- 12, a unitig is open
-    refusal 12 when is_open p.cell.current else
     -- 3, the record doesn't fit the rest of the file, or no index entry is free
     refusal 3 when no_space_for_empty p else
     -- its coordinate
@@ -34,7 +32,7 @@ pub record EmptySet (p : Plain) (accepted : List (ℕ × Update)) (s : Store) (b
   pub added : (store_step s b (empty_add p)).0 ≡ as_seen (empty_reply p) []
   -- "files 01 01": where it is not refused, behind what is filed
   pub filed :
-      is_open p.cell.current ≡ false → no_space_for_empty p ≡ false
+      no_space_for_empty p ≡ false
       → record_file (store_step s b (empty_add p)).1.cell (store_step s b (empty_add p)).2.cell ≡ record_file s.cell b.cell ++ (0x01 ∷ 0x01 ∷ [])
   -- "show then gives zero ids": of a vertex that there is and for which it was sent; the output may have any length, and stays as it was
   pub shown :

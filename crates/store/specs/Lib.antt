@@ -18,5 +18,7 @@ pub mod Once
 pub mod History
 -- And one of the empty set: its add, its record and its show.
 pub mod Empty
+-- And one of sets filed while a unitig is open.
+pub mod WhileOpen
 -- What serves the functions inside the crate and their proofs; no public contract rests on it alone.
 pub mod Inside

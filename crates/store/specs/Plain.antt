@@ -1,4 +1,4 @@
--- Section 7 of 01, with request F-1: the plain store. It shares no test with the store over its buffers.
+-- Section 7 of 01, with requests F-1 and F-2: the plain store. It shares no test with the store over its buffers.
 use Rattle.std.specs.Prelude.{ℕ, zero, suc, ◌+◌, ◌-◌, ◌*◌, ◌/◌, ◌%◌, Bool, true, false, not, ◌||◌, ◌&&◌, List, [], ◌∷◌, ◌++◌, map, reverse, length, get_or, drop, ltb, leb, eqb}
 use Rattle.std.proofs.Math.Option.{Option, none, some}
 use Rattle.base.specs.Tests.{◌when◌else◌}
@@ -177,15 +177,9 @@ pub data Verdict : Type 0 where
   repeat : ℕ → Verdict
   accept : Verdict
 
-unfoldable pub is_open : Option Unitig → Bool
-is_open none = false
-is_open (some u) = true
-
 unfoldable pub add_tests : ℕ → PlainCell → List ℕ → Verdict
 add_tests N c ids =
-    -- 12, a unitig is open
-    refuse 12 when is_open c.current else
-    -- 2, ids not strictly ascending or one not below N; no ids are a set (request F-1)
+    -- 2, ids not strictly ascending or one not below N; no ids are a set (request F-1); a unitig may be open (request F-2)
     refuse 2 when not (is_set N ids) else
     -- 3, the record doesn't fit the rest of the file, or no index entry is free
     refuse 3 when ltb c.lengths.records (length (file_of N c.S) + length (record_of N ids)) || ltb c.lengths.index (length c.S + 2) else

@@ -2,22 +2,13 @@
 // `as` stands where no `From` leads, from u32 to usize and from there to u64: what it converts is proved to fit.
 ghost use Rattle.std.specs.Prelude.{◌≡◌, length};
 ghost use Rattle.store.specs.State.{bufs, of_answer};
-ghost use Rattle.store.specs.Add.{unitig_open, no_space, same_add, add_test, add_filed, add_cell, add_step};
+ghost use Rattle.store.specs.Add.{no_space, same_add, add_test, add_filed, add_cell, add_step};
 ghost use Rattle.store.specs.Inside.Fits.{AddFits, AddReady};
 
 use crate::filed::Filed;
 use crate::lengths::Lengths;
-use crate::state::{Cell, Current, Extent, Last, Store, Told};
+use crate::state::{Cell, Extent, Last, Store, Told};
 use base::Refusal;
-
-impl Cell {
-    #[tactic(auto, unfolding(crate::specs::Add::unitig_open))]
-    fn is_open(self) -> bool
-        ensures { result ≡ unitig_open self.current }
-    {
-        self.current != Current::Nothing
-    }
-}
 
 impl Filed<'_> {
     // Whether a record of so many bytes, or its index entry, doesn't fit.
@@ -29,14 +20,11 @@ impl Filed<'_> {
         self.cell.records.length - self.cell.records.used < len || self.cell.index < sets + 2
     }
 
-    // Refusal 12, a unitig is open; 2, ids that are no set; 3, no space.
+    // Refusal 2, ids that are no set; 3, no space.
     #[tactic(auto, using(base::proofs::Tests::tests), unfolding(crate::specs::Add::add_test, codec::specs::Records::record_length))]
     fn add_test(self, ids: &[u32]) -> Result<(), Refusal>
         ensures { result ≡ add_test self.entry.colors self.entry.cell ids.now }
     {
-        if self.cell.is_open() {
-            return Err(Refusal::Opened);
-        }
         // the colours are within their limits, so that it can only refuse the ids
         let len = codec::records::color_record_len(self.colors, ids)?;
         if self.no_space(len) {
@@ -82,7 +70,8 @@ impl Cell {
         }
     }
 
-    // A set joins the accepted ones; answers its coordinate. Refusals 10, 11, 12, 2, 3, in this order.
+    // A set joins the accepted ones; answers its coordinate. Whether a unitig is open isn't asked, and one that is stays as it
+    // is. Refusals 10, 11, 2, 3, in this order.
     #[tactic(auto, unfolding(crate::specs::Add::same_add))]
     fn add(
         self,

@@ -149,8 +149,9 @@ impl Random {
 
     fn deed(&mut self, plain: &Plain, shape: &Shape) -> Deed {
         match (self.below(100), plain.open.is_some()) {
-            (0..50, false) | (0..8, true) => self.set_of(plain.n),
-            (50..92, false) | (8..70, true) => self.piece(plain, shape),
+            // A set is often filed while a unitig is open.
+            (0..50, false) | (0..34, true) => self.set_of(plain.n),
+            (50..92, false) | (34..78, true) => self.piece(plain, shape),
             _ => {
                 let n = plain.open.as_ref().map_or(1, |open| open.coordinates.len());
                 Deed::Close(self.way(n as u32))
@@ -205,11 +206,12 @@ impl Random {
     /// The coordinate of one of the store's sets, as far as it has any.
     fn named(&mut self, plain: &Plain) -> u64 {
         let sets = plain.sets.len().max(1) as u64;
-        // Often one of the first, so that neighbours are equal and pieces meet.
-        let place = if self.flip() {
-            self.below(sets.min(2))
-        } else {
-            self.below(sets)
+        let place = match self.below(8) {
+            // Often one of the first, so that neighbours are equal and pieces meet.
+            0..4 => self.below(sets.min(2)),
+            // The last one, which may have been filed while the unitig was open.
+            4 => sets - 1,
+            _ => self.below(sets),
         };
         u64::from(plain.worker) + 256 * place
     }

@@ -5,27 +5,34 @@ use model::calls::{Answer, Call, Deed, Way};
 use model::runs::{coordinate, offset};
 use model::store::{Buffers, Current, State};
 
-/// What the program says of a refusal, by its number less one.
-const REASONS: [&str; 15] = [
-    "colour count or worker outside its limits",
-    "ids not strictly ascending, or not below the colour count",
-    "not enough space",
-    "input ends too early",
-    "not a written form",
-    "runs do not start at 0, do not ascend, or reach the vertex count",
-    "vertex count outside its limits",
-    "piece does not begin where the open unitig ends",
-    "coordinate names no set of this store",
-    "number is neither the last nor the next",
-    "last number with another call or other arguments",
-    "a unitig is open",
-    "no unitig is open",
-    "no such closed unitig or vertex",
-    "state or buffers were altered",
+/// What the program says of each refusal. None has the number 12.
+const REASONS: [(u32, &str); 14] = [
+    (1, "colour count or worker outside its limits"),
+    (
+        2,
+        "ids not strictly ascending, or not below the colour count",
+    ),
+    (3, "not enough space"),
+    (4, "input ends too early"),
+    (5, "not a written form"),
+    (
+        6,
+        "runs do not start at 0, do not ascend, or reach the vertex count",
+    ),
+    (7, "vertex count outside its limits"),
+    (8, "piece does not begin where the open unitig ends"),
+    (9, "coordinate names no set of this store"),
+    (10, "number is neither the last nor the next"),
+    (11, "last number with another call or other arguments"),
+    (13, "no unitig is open"),
+    (14, "no such closed unitig or vertex"),
+    (15, "state or buffers were altered"),
 ];
 
 fn refused(number: u32) -> String {
-    format!("refused {number} {}", REASONS[number as usize - 1])
+    let reason = REASONS.iter().find(|(of, _)| *of == number);
+    let (_, text) = reason.expect("a refusal's number");
+    format!("refused {number} {text}")
 }
 
 /// A command, and the lines that answer it.

@@ -137,6 +137,74 @@ impl List {
     }
 }
 
+/// How a list's sets and unitigs cross: how many unitigs were opened, in how many of them a set was filed while they were open, how
+/// many pieces joined to them name such a set, and how many shows of a closed one give such a set.
+#[derive(Default)]
+pub struct Crossed {
+    pub opened: u64,
+    pub with_sets: u64,
+    pub pieces: u64,
+    pub shown: u64,
+}
+
+impl Crossed {
+    pub fn add(&mut self, more: &Crossed) {
+        self.opened += more.opened;
+        self.with_sets += more.with_sets;
+        self.pieces += more.pieces;
+        self.shown += more.shown;
+    }
+}
+
+impl List {
+    pub fn crossed(&self) -> Crossed {
+        let mut crossed = Crossed::default();
+        let mut sets = 0;
+        // Of the open unitig and of each closed one, the sets that were filed when it was opened.
+        let mut open: Option<u64> = None;
+        let mut closed = Vec::new();
+        let mut with_set = false;
+        let calls = self.calls.iter().zip(&self.told).zip(&self.accepted);
+        for ((call, told), &accepted) in calls {
+            match call {
+                Call::Show { unitig, vertex, .. } if told.is_ok() => {
+                    let place = self.place_at(*unitig, *vertex);
+                    crossed.shown += u64::from(place >= closed[*unitig as usize]);
+                }
+                Call::Numbered { deed, .. } if accepted => match deed {
+                    Deed::Add { .. } => {
+                        sets += 1;
+                        crossed.with_sets += u64::from(open.is_some() && !with_set);
+                        with_set = true;
+                    }
+                    Deed::Join { runs, .. } => match open {
+                        None => {
+                            crossed.opened += 1;
+                            open = Some(sets);
+                            with_set = false;
+                        }
+                        Some(before) => {
+                            let new = |&run: &u64| coordinate(run) / 256 >= before;
+                            crossed.pieces += u64::from(runs.iter().any(new));
+                        }
+                    },
+                    Deed::Close(_) => closed.extend(open.take()),
+                },
+                _ => {}
+            }
+        }
+        crossed
+    }
+
+    /// Which set a vertex of a closed unitig has, by what the buffers hold in the end.
+    fn place_at(&self, unitig: u32, vertex: u32) -> u64 {
+        let start = self.buffers.table[2 * unitig as usize] as usize;
+        let (runs, _) = model::read_runs(&self.buffers.runs[start..]).expect("a shown unitig");
+        let mut before = runs.iter().filter(|&&run| offset(run) <= vertex);
+        coordinate(*before.next_back().expect("a shown vertex")) / 256
+    }
+}
+
 /// What a run of lists should reach beside every refusal: the bounds from within, and what becomes of empty sets.
 pub const REACHED: [&str; 13] = [
     "record file full",

@@ -98,7 +98,6 @@ pub enum Clause {
     OtherCall,
     OtherArguments,
     HeldUnreadable,
-    Opened,
     NoneOpen,
     NoUnitig,
     NoVertex,
@@ -106,7 +105,7 @@ pub enum Clause {
 }
 
 impl Clause {
-    /// The refusal's number in the specification.
+    /// The refusal's number in the specification. No refusal has the number 12 any more: it was an add's while a unitig is open.
     pub fn number(self) -> u32 {
         match self {
             Clause::Colors | Clause::Worker => 1,
@@ -127,7 +126,6 @@ impl Clause {
             Clause::OtherWorker | Clause::NoSet => 9,
             Clause::NumberZero | Clause::NumberFar => 10,
             Clause::OtherCall | Clause::OtherArguments | Clause::HeldUnreadable => 11,
-            Clause::Opened => 12,
             Clause::NoneOpen => 13,
             Clause::NoUnitig | Clause::NoVertex => 14,
             Clause::Altered => 15,

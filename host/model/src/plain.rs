@@ -151,9 +151,6 @@ impl Plain {
     }
 
     fn add(&mut self, ids: &[u32]) -> Result<u64, Clause> {
-        if self.open.is_some() {
-            return Err(Clause::Opened);
-        }
         limit_ids(self.n, ids).map_err(|why| match why {
             Why::NotAscending => Clause::NotAscending,
             _ => Clause::NotBelow,

@@ -236,9 +236,6 @@ impl State {
     }
 
     fn add(&self, ids: &[u32], buffers: &mut Buffers) -> Result<State, Clause> {
-        if self.current != Current::Nothing {
-            return Err(Clause::Opened);
-        }
         match limit_ids(self.n, ids) {
             Ok(()) => {}
             Err(Why::NotAscending) => return Err(Clause::NotAscending),

@@ -3,7 +3,7 @@
 use std::fmt;
 
 /// A refusal of the specification, by its number. Nothing else comes with a refusal, and no lent place has changed.
-/// The operations of this crate give the first seven; the others are those of the store.
+/// The operations of this crate give the first seven; the others are those of the store. No refusal has the number 12.
 #[derive(Debug, Clone, Copy, PartialEq, Eq, Hash)]
 #[repr(u32)]
 pub enum Refusal {
@@ -18,7 +18,6 @@ pub enum Refusal {
     Coordinate = 9,
     Number = 10,
     Arguments = 11,
-    Opened = 12,
     Unopened = 13,
     Place = 14,
     Altered = 15,
@@ -26,7 +25,7 @@ pub enum Refusal {
 
 impl Refusal {
     /// Every refusal, in the order of their numbers.
-    pub const ALL: [Refusal; 15] = [
+    pub const ALL: [Refusal; 14] = [
         Refusal::Colors,
         Refusal::Ids,
         Refusal::Space,
@@ -38,7 +37,6 @@ impl Refusal {
         Refusal::Coordinate,
         Refusal::Number,
         Refusal::Arguments,
-        Refusal::Opened,
         Refusal::Unopened,
         Refusal::Place,
         Refusal::Altered,
@@ -49,10 +47,10 @@ impl Refusal {
         self as u32
     }
 
-    /// The refusal of a number. 0 is success, and has none.
+    /// The refusal of a number. 0 is success, and has none; nor have 12 and numbers above 15.
     pub fn from_number(number: u32) -> Option<Refusal> {
-        let place = number.checked_sub(1)? as usize;
-        Refusal::ALL.get(place).copied()
+        let mut all = Refusal::ALL.into_iter();
+        all.find(|refusal| refusal.number() == number)
     }
 
     /// What is wrong, in a line.
@@ -73,7 +71,6 @@ impl Refusal {
             Refusal::Coordinate => "a coordinate names no record of this store",
             Refusal::Number => "the call number is neither the last nor the next",
             Refusal::Arguments => "the last number came with another call or other arguments",
-            Refusal::Opened => "a unitig is open",
             Refusal::Unopened => "no unitig is open",
             Refusal::Place => "there is no such closed unitig, or no such vertex of it",
             Refusal::Altered => "the state or the buffers are not those that the calls left",

@@ -31,9 +31,9 @@ unfolding close_tests
 close_not_repeat closed l way none a e = let z : ◌≡◌ {A = ℕ} 0 1 = cc in omega arith
 close_not_repeat closed l way (some u) a e = accept_repeat a (refuse_repeat _ a _ _ e)
 
-tests_not_repeat : (p : Plain) (u : Update) (a : ℕ) → tests p u ≡ repeat a → ⊥
+pub tests_not_repeat : (p : Plain) (u : Update) (a : ℕ) → tests p u ≡ repeat a → ⊥
 unfolding tests add_tests join_tests
-tests_not_repeat p (add ids) a e = accept_repeat a (refuse_repeat _ a _ _ (refuse_repeat _ a _ _ (refuse_repeat _ a _ _ e)))
+tests_not_repeat p (add ids) a e = accept_repeat a (refuse_repeat _ a _ _ (refuse_repeat _ a _ _ e))
 tests_not_repeat p (join n reversed piece) a e =
     accept_repeat a (refuse_repeat _ a _ _ (refuse_repeat _ a _ _ (refuse_repeat _ a _ _ (refuse_repeat _ a _ _ (refuse_repeat _ a _ _ e)))))
 tests_not_repeat p (close way) a e = close_not_repeat p.closed p.shared way p.cell.current a e

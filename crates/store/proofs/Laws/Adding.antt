@@ -66,8 +66,7 @@ part_reads r N c file ids at h b e =
 ready : (N : ℕ) (c : Cell) (ids : List ℕ) (f n : ℕ) → AddFits N c f n → add_test N c ids ≡ Ok tt → AddReady N c ids f n
 unfolding add_test no_space
 ready N c ids f n a e =
-    let o = refuse_go _ _ _ e in
-    let i = refuse_go _ _ _ o.1 in
+    let i = refuse_go _ _ _ e in
     let s = refuse_go _ _ _ i.1 in
     let long : Bool = ltb c.records.length (c.records.used + length (record_of N ids)) in
     let x : c.records.used + length (record_of N ids) ≤ c.records.length = ltb-false _ _ (or_none long _ s.0).0 in

@@ -11,14 +11,14 @@ use lib.ListN.{length, set, length-append, length-set}
 use lib.Seq.{get_or-append_seam, take-suc-set}
 use borrow.Author.Tests.{ltb-false, not-false}
 use Rattle.base.specs.Answers.{done}
-use Rattle.base.specs.declared.Refusal.TheVariants.{Ids, Opened, Space}
+use Rattle.base.specs.declared.Refusal.TheVariants.{Ids, Space}
 use Rattle.base.proofs.All.{all_append}
 use Rattle.base.proofs.Bools.{or_none}
 use Rattle.codec.proofs.Promise.{IsSet}
 use Rattle.codec.specs.Flat.{bounds}
 use Rattle.codec.specs.Records.{file_of, record_of}
-use Rattle.store.specs.Add.{add_filed, add_test, after_add, unitig_open, no_space}
-use Rattle.store.specs.Plain.{Plain, PlainCell, Unitig, accept, accepted, add, add_tests, effect, is_open, tests}
+use Rattle.store.specs.Add.{add_filed, add_test, after_add, no_space}
+use Rattle.store.specs.Plain.{Plain, PlainCell, Unitig, accept, accepted, add, add_tests, effect, tests}
 use Rattle.store.specs.State.{Bufs, CellBufs, Outcome, after, put, with_records}
 use Rattle.store.specs.declared.state.Cell.{Cell}
 use Rattle.store.specs.declared.state.Current.{Current}
@@ -28,10 +28,10 @@ use Rattle.store.proofs.Laws.Agree.{set_within}
 use Rattle.store.proofs.Laws.Flats.{flat_more, starts_more}
 use Rattle.store.proofs.Laws.Gates.{as_verdict, refuse_accept, refuse_both}
 use Rattle.store.proofs.Laws.Puts.{put_length, put_take}
-use Rattle.store.proofs.Laws.Rep.{CellRep, Filed, Named, OpenRep, Rep, added}
+use Rattle.store.proofs.Laws.Rep.{CellRep, Filed, OpenRep, Rep, added}
 use Rattle.store.proofs.Laws.Rep as rep
 use Rattle.store.proofs.Laws.Table.{shared_more}
-use Rattle.store.proofs.Laws.Unitigs.{good_more}
+use Rattle.store.proofs.Laws.Unitigs.{good_more, named_more}
 
 -- ---- one record more
 
@@ -63,8 +63,8 @@ module _ {N : ℕ} {S : List (List ℕ)} {used sets : ℕ} {file index : List �
 
 -- ---- a set more leaves what is named named
 
-named_more : (W : ℕ) (S : List (List ℕ)) (ids : List ℕ) (c : ℕ) → Named W (length S) c → Named W (length (S ++ (ids ∷ []))) c
-named_more W S ids c a = record { own = a.own; low = omega (arith, a.low, length-append S (ids ∷ [])) }
+pub set_more : (S : List (List ℕ)) (ids : List ℕ) → length S ≤ length (S ++ (ids ∷ []))
+set_more S ids = omega (arith, length-append S (ids ∷ []))
 
 open_more : {P Q : ℕ → Type 0} {c : Option Unitig} {o : Current} {used : ℕ} {runs : List ℕ} → ((x : ℕ) → P x → Q x) → OpenRep P c o used runs → OpenRep Q c o used runs
 open_more h rep.closed = rep.closed
@@ -72,18 +72,12 @@ open_more h (rep.opened e g t) = rep.opened e (good_more h g) t
 
 -- ---- a cell
 
-pub opens_agree : {names : ℕ → Type 0} {c : Option Unitig} {o : Current} {used : ℕ} {runs : List ℕ} → OpenRep names c o used runs → unitig_open o ≡ is_open c
-unfolding unitig_open is_open
-opens_agree rep.closed = refl
-opens_agree (rep.opened e g t) = refl
-
 module _ {N : ℕ} {p : PlainCell} {c : Cell} {b : CellBufs} (r : CellRep N p c b) (ids : List ℕ) where
   pub add_tests_cell : as_verdict (add_test N c ids) ≡ add_tests N p ids
   unfolding as_verdict add_test add_tests no_space
   add_tests_cell =
-      refuse_both Opened _ _ (opens_agree r.opened) (λ x.
-      refuse_both Ids _ _ (ap not (sym (set_within N ids))) (λ y.
-      refuse_both Space _ _ (rw (r.record_size.told, r.index_size.told, r.filed.far, r.filed.many)) (λ z. refl)))
+      refuse_both Ids _ _ (ap not (sym (set_within N ids))) (λ x.
+      refuse_both Space _ _ (rw (r.record_size.told, r.index_size.told, r.filed.far, r.filed.many)) (λ y. refl))
 
   pub add_cell_lem : (i : ℕ) → add_tests N p ids ≡ accept
       → CellRep N (cell_after p i (add ids) (p.W + 256 * length p.S) (p.S ++ (ids ∷ [])) p.current) (add_filed N c i ids b.records b.index).1
@@ -92,9 +86,8 @@ module _ {N : ℕ} {p : PlainCell} {c : Cell} {b : CellBufs} (r : CellRep N p c 
   add_cell_lem i e =
       let x = refuse_accept _ _ _ e in
       let y = refuse_accept _ _ _ x.1 in
-      let z = refuse_accept _ _ _ y.1 in
-      let ok : IsSet N ids = sym (set_within N ids) ∙ not-false _ y.0 in
-      let fits = or_none _ _ z.0 in
+      let ok : IsSet N ids = sym (set_within N ids) ∙ not-false _ x.0 in
+      let fits = or_none _ _ y.0 in
       let a : length (file_of N p.S) + length (record_of N ids) ≤ p.lengths.records = ltb-false _ _ fits.0 in
       let d : length p.S + 2 ≤ p.lengths.index = ltb-false _ _ fits.1 in
       let room : length (file_of N p.S) + length (record_of N ids) ≤ length b.records = omega (arith, r.record_size.long) in
@@ -110,7 +103,7 @@ module _ {N : ℕ} {p : PlainCell} {c : Cell} {b : CellBufs} (r : CellRep N p c 
         held_size = r.held_size;
         filed = filed_more r.filed ids ok room entry;
         open_room = r.open_room;
-        opened = open_more (named_more p.W p.S ids) r.opened;
+        opened = open_more (named_more (set_more p.S ids)) r.opened;
         held_room = r.held_room;
         last = refl;
         call = rw (r.worker, r.filed.many) (added (length p.S) here (get_or-append_seam p.S ids [] []) refl);
@@ -134,7 +127,7 @@ module _ {p : Plain} {s : Store} {b : Bufs} (r : Rep p s b) where
         colors = refl;
         limits = r.limits;
         cell = add_cell_lem r.cell ids i e;
-        shared = shared_more (named_more p.cell.W p.cell.S ids) r.shared;
+        shared = shared_more (named_more (set_more p.cell.S ids)) r.shared;
       })
 
   pub add_answer : (i : ℕ) (ids : List ℕ) → (add_done s b i ids).0 ≡ done ((effect p (add ids)).0 ∷ [])

@@ -22,14 +22,14 @@ use Rattle.runs.specs.Orders.{climbs, sharp}
 use Rattle.runs.specs.Reverse.{reverse_runs}
 use Rattle.runs.specs.Rotate.{changes, firsts, runs_at, merged, rotate_runs}
 use Rattle.runs.specs.Words.{pack}
-use Rattle.store.specs.Add.{unitig_open, no_space, add_test, same_add, add_filed, add_cell, add_step}
+use Rattle.store.specs.Add.{no_space, add_test, same_add, add_filed, add_cell, add_step}
 use Rattle.store.specs.Altered.{altered_buffer, bad_vertices, bad_current, altered_cell, altered_shared, altered}
 use Rattle.store.specs.Close.{same_way, same_close, filed_runs, filed_bytes, count_of, close_open, no_close_space, close_test, close_filed_of, close_cell, close_step}
 use Rattle.store.specs.Demand.{LentCall, updating, showing, Seen, seen, sent, out_of, as_seen, all_seen, way_of, store_update, store_step, store_run}
 use Rattle.store.specs.Filed.{unnamed, record_start, set_in, set_from, set_at, reads_as}
 use Rattle.store.specs.Join.{alike, same_join, open_count, open_at, open_new, all_named, open_test, open_space, join_test, join_filed_at, join_cell, join_step}
 use Rattle.store.specs.Numbered.{sequence_of, repeated, tested, by_sequence, numbered, by_gate}
-use Rattle.store.specs.Plain.{Way, line, cycle, add, join, close, plain_fresh, is_empty, ascends_from, ascends, all_below, is_set, are_sharp, name_sets, equal, inner_starts, expanded, turned_round, piece_of, joined, new_count, differs, filed, bytes_of, is_open, add_tests, join_tests, close_tests, tests, equal_ways, both_or_neither, equal_updates, again, verdict, close_effect, effect, accepted, plain_update, coord_at, ids_at, no_vertex, plain_show, plain_step, plain_run}
+use Rattle.store.specs.Plain.{Way, line, cycle, add, join, close, plain_fresh, is_empty, ascends_from, ascends, all_below, is_set, are_sharp, name_sets, equal, inner_starts, expanded, turned_round, piece_of, joined, new_count, differs, filed, bytes_of, add_tests, join_tests, close_tests, tests, equal_ways, both_or_neither, equal_updates, again, verdict, close_effect, effect, accepted, plain_update, coord_at, ids_at, no_vertex, plain_show, plain_step, plain_run}
 use Rattle.store.specs.Show.{no_place, coord_from, set_by, vertex_set, shown_by, show_step}
 use Rattle.store.specs.Start.{bad_limits, too_long, bad_cell_lengths, bad_shared_lengths, bad_lengths, fresh_cell, fresh_shared, fresh, start_step}
 use Rattle.store.specs.State.{Bufs, bufs, lengths_of, extent, put, after, with_unitig, with_parts}
@@ -123,12 +123,12 @@ worked =
     ∷ (joins 3 3 false (pack 0 3 ∷ []), refused 9)
     ∷ (joins 3 3 false (pack 0 514 ∷ []), refused 9)
     ∷ (joins 3 3 false piece, told 3)
-    -- another direction, count or piece is another call; a unitig is open; the junction; the sum of the counts
+    -- another direction, count or piece is another call; no space for a set, a unitig open or not; the junction; the sum of the counts
     ∷ (joins 3 3 true piece, refused 11)
     ∷ (joins 3 4 false piece, refused 11)
     ∷ (joins 3 3 false turned, refused 11)
     ∷ (joins 3 3 false piece, told 3)
-    ∷ (adds 4 (1 ∷ []), refused 12)
+    ∷ (adds 4 (1 ∷ []), refused 3)
     ∷ (joins 4 2 false turned, refused 8)
     ∷ (joins 4 16777214 true turned, refused 7)
     ∷ (joins 4 2 true turned, told 4)
@@ -165,7 +165,7 @@ empty_alone N =
           ∷ (adds 1 (0 ∷ []), refused 11)
           ∷ (adds 2 [], refused 3)
           ∷ (joins 2 3 false (pack 0 2 ∷ []), told 3)
-          ∷ (adds 3 [], refused 12)
+          ∷ (adds 3 [], refused 3)
           ∷ (closes 3 line, told 0)
           ∷ (showing 0 2 [], shows 0 [])
           ∷ (showing 0 2 (8 ∷ 8 ∷ []), shows 0 (8 ∷ 8 ∷ []))
@@ -200,6 +200,38 @@ empty_twice =
 abbrev file_twice : List ℕ × List ℕ
 file_twice = (0x01 ∷ 0x01 ∷ 0x02 ∷ 0x62 ∷ 0x01 ∷ 0x01 ∷ 0x01 ∷ [], 0 ∷ 2 ∷ 5 ∷ 7 ∷ [])
 
+-- ---- a set filed while a unitig is open
+
+-- over buffers just large enough; a coordinate names no set before its add, and one behind it
+abbrev while_open : Case
+while_open =
+    over_room (room 6 3 2 2 17 2)
+    (
+    (adds 1 (5 ∷ []), told 2)
+    ∷ (joins 2 3 false (pack 0 2 ∷ []), told 3)
+    ∷ (joins 3 2 false turned, refused 9)
+    ∷ (adds 2 (0 ∷ 7 ∷ []), refused 11)
+    ∷ (adds 3 (0 ∷ 7 ∷ []), told 258)
+    -- the last call is the add: the join before it is out of sequence
+    ∷ (adds 3 (0 ∷ 7 ∷ []), told 258)
+    ∷ (adds 3 (1 ∷ []), refused 11)
+    ∷ (joins 3 2 false turned, refused 11)
+    ∷ (joins 2 3 false (pack 0 2 ∷ []), refused 10)
+    ∷ (adds 4 (9 ∷ []), refused 2)
+    ∷ (adds 4 (1 ∷ []), refused 3)
+    ∷ (joins 4 2 false turned, told 4)
+    ∷ (closes 5 line, told 0)
+    ∷ (showing 0 2 (8 ∷ 8 ∷ []), shows 1 (5 ∷ 8 ∷ []))
+    ∷ (showing 0 3 (8 ∷ 8 ∷ []), shows 2 (0 ∷ 7 ∷ []))
+    ∷ []
+    )
+
+-- the record file and its index as of two sets filed first; the open runs; the piece as sent; the runs (0,2)(3,258) as bytes; the table
+abbrev left_open : Bufs
+left_open =
+    bufs (0x02 ∷ 0x62 ∷ 0x01 ∷ 0x02 ∷ 0x1A ∷ 0x08 ∷ []) (0 ∷ 3 ∷ 6 ∷ []) (pack 0 2 ∷ pack 3 258 ∷ []) turned
+    (2 ∷ 0 ∷ 0 ∷ 0 ∷ 2 ∷ 0 ∷ 0 ∷ 0 ∷ 0 ∷ 3 ∷ 0 ∷ 0 ∷ 2 ∷ 1 ∷ 0 ∷ 0 ∷ 0 ∷ []) (0 ∷ 4 ∷ [])
+
 -- ---- two refusals at once: the one that stands first is answered
 
 -- two sets, then an open unitig of two vertices with one run; no more open runs or held runs fit, and no unitig
@@ -215,13 +247,14 @@ cases =
     ∷ empty_alone 8
     ∷ empty_alone 1
     ∷ empty_twice
+    ∷ while_open
     -- on a fresh store the number 0 is the last one too, and its call another: 10 before 11
     ∷ over_room tight ((adds 0 (5 ∷ []), refused 10) ∷ [])
     ∷ over_room tight ((joins 0 1 false (pack 0 2 ∷ []), refused 10) ∷ [])
     ∷ over_room tight ((closes 0 line, refused 10) ∷ [])
-    -- add: 11 before 12 and what follows; 12 before 2; 12 before 3; 10 before all of them
+    -- add, a unitig open: 11 before 2 and 3; 2 before 3, 3 by file and index together; 10 before all of them
     ∷ over_room tight (opening ++ ((adds 3 (5 ∷ []), refused 11) ∷ (adds 3 (9 ∷ []), refused 11) ∷ []))
-    ∷ over_room tight (opening ++ ((adds 4 [], refused 12) ∷ (adds 4 (9 ∷ []), refused 12) ∷ (adds 4 (5 ∷ []), refused 12) ∷ (adds 5 (9 ∷ []), refused 10) ∷ []))
+    ∷ over_room tight (opening ++ ((adds 4 [], refused 3) ∷ (adds 4 (9 ∷ []), refused 2) ∷ (adds 4 (5 ∷ []), refused 3) ∷ (adds 5 (9 ∷ []), refused 10) ∷ []))
     -- 2 before 3: neither a byte nor an index entry is free
     ∷ over_room (room 3 2 1 1 8 0) ((adds 1 (5 ∷ []), told 2) ∷ (adds 2 (9 ∷ []), refused 2) ∷ (adds 2 (1 ∷ []), refused 3) ∷ [])
     -- 3 by the file alone, and by the index alone
@@ -575,6 +608,7 @@ pub record Cases : Type 0 where
   pub stored : map by_store cases ≡ map told_by cases
   pub plain : map by_plain cases ≡ map told_by cases
   pub kept : left_over worked ≡ left
+  pub open_kept : left_over while_open ≡ left_open
   pub empty_kept :
       (left_over (empty_alone 8) ≡ left_alone)
       × (left_over (empty_alone 1) ≡ left_alone)
@@ -591,11 +625,11 @@ unfolding
     ◌when◌else◌ any_of over low_bits value_of bits_of pack_bytes pack_bits high_in high_bit gamma delta read_zeros read_low read_gamma read_delta leb_in prefix_of
     read_leb read_prefix map_bits ids_of absent gap_bits regime set_bits encode_set read_gaps read_map read_set padding decode_set within flat record_of read_record
     bad_colors same colours colour_from climbs sharp reverse_runs shifted skip appendix changes firsts runs_at merged rotate_runs le_bytes le_value run_bytes
-    words after_count read_runs sharp_colour_in sharp_colour unitig_open no_space add_test same_add add_filed add_cell add_step altered_buffer bad_vertices
+    words after_count read_runs sharp_colour_in sharp_colour no_space add_test same_add add_filed add_cell add_step altered_buffer bad_vertices
     bad_current altered_cell altered_shared altered same_way same_close filed_runs filed_bytes count_of close_open no_close_space close_test close_filed_of close_cell
     close_step sent out_of as_seen all_seen way_of store_update store_step store_run unnamed record_start set_in set_from set_at reads_as alike same_join open_count
     open_at open_new all_named open_test open_space join_test join_filed_at join_cell join_step sequence_of repeated tested by_sequence numbered by_gate plain_fresh is_empty
-    ascends_from ascends all_below is_set are_sharp name_sets equal inner_starts expanded turned_round piece_of joined new_count differs filed bytes_of is_open
+    ascends_from ascends all_below is_set are_sharp name_sets equal inner_starts expanded turned_round piece_of joined new_count differs filed bytes_of
     add_tests join_tests close_tests tests equal_ways both_or_neither equal_updates again verdict close_effect effect accepted plain_update coord_at ids_at
     no_vertex plain_show plain_step plain_run no_place coord_from set_by vertex_set shown_by show_step bad_limits too_long bad_cell_lengths bad_shared_lengths
     bad_lengths fresh_cell fresh_shared fresh start_step put after with_unitig
@@ -604,6 +638,7 @@ computed =
       stored = refl;
       plain = refl;
       kept = refl;
+      open_kept = refl;
       empty_kept = (refl, refl, refl);
       started = refl;
       found = (refl, refl, refl);

@@ -61,6 +61,13 @@ unfolding ◌when◌else◌
 refuse_accept r true v e = let z : ◌≡◌ {A = ℕ} 0 1 = cc in absurd (omega arith)
 refuse_accept r false v e = (refl, e)
 
+-- what is accepted still is where less is turned down
+pub refuse_less : (r : ℕ) {t u : Bool} {v w : Verdict} → (t ≡ false → u ≡ false) → (v ≡ accept → w ≡ accept) → ◌when◌else◌ (refuse r) t v ≡ accept → ◌when◌else◌ (refuse r) u w ≡ accept
+unfolding ◌when◌else◌
+refuse_less r {t} {u} {v} {w} h k e =
+    let a = refuse_accept r t v e in
+    rw (h a.0) (k a.1)
+
 -- ---- 10, 11 and repeats
 
 pub repeats : (same : Bool) (a : ℕ) (last u : Update) → same ≡ equal_updates last u → gate_verdict (repeated same a) ≡ again (some (last, a)) u

@@ -63,7 +63,10 @@ read_of {names} slim u g rest =
     let few : length (unitig_runs u) ≤ n = omega (arith, strict_few n (unitig_runs u) (sharp_yes n (unitig_runs u) g.is_sharp).up) in
     read_back (unitig_runs u) rest (omega (arith, g.few)) (coloured_words n (unitig_runs u) g.is_sharp (rw g.tell narrow))
 
--- what is named stays named
+-- what is named stays named when there are more sets: a coordinate, and all that a unitig names
+pub named_more : {W k m : ℕ} → k ≤ m → (c : ℕ) → Named W k c → Named W m c
+named_more h c a = record { own = a.own; low = omega (arith, a.low) }
+
 pub good_more : {P Q : ℕ → Type 0} {u : Unitig} → ((c : ℕ) → P c → Q c) → Good P u → Good Q u
 good_more {P} {Q} {u} h g =
     record {

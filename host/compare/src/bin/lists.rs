@@ -3,10 +3,11 @@
 //! built. Every line that a program answers is compared with the model's. SEED begins the lists (1): the same two numbers repeat
 //! the same run. The stores of one colour count are then compared, each with each: the record bytes of the one are the beginning
 //! of the other's exactly when its accepted sets are. Exits with 1 where an answer or such a pair differs, or where a refusal that
-//! calls can reach, a bound, or what can become of an empty set, was not met, as far fewer calls may not.
+//! calls can reach, a bound, what can become of an empty set, or of a set filed while a unitig is open, was not met, as far fewer
+//! calls may not.
 
 use compare::commands::{Line, lines_of};
-use compare::lists::{History, List, REACHED, Told};
+use compare::lists::{Crossed, History, List, REACHED, Told};
 use compare::random::Random;
 use compare::run::grouped;
 use compare::sessions::{MOST_BYTES, Session, session_of};
@@ -49,7 +50,7 @@ fn reachable() -> Vec<(&'static str, Clause)> {
         all.extend(clauses.iter().map(|&clause| (operation, clause)));
     };
     more("start", &[Colors, Worker, NoIndexEntry]);
-    more("add", &[Opened, NotAscending, NotBelow, RecordFile, Index]);
+    more("add", &[NotAscending, NotBelow, RecordFile, Index]);
     more("join", &[NoVertices, ManyVertices, NotSharp, OtherWorker]);
     more("join", &[NoSet, Junction, OpenRuns, HeldPiece]);
     more("close", &[NoneOpen, RunFile, Table]);
@@ -282,6 +283,7 @@ fn main() {
     let (mut lists, mut made) = (0, 0);
     let mut reached = [0; REACHED.len()];
     let (mut adds, mut empty) = (0, 0);
+    let mut crossed = Crossed::default();
     let mut histories = Vec::new();
     while made < calls || lists < LARGEST {
         let shape = if lists < LARGEST {
@@ -303,6 +305,7 @@ fn main() {
             adds += 1;
             empty += u64::from(ids.is_empty());
         }
+        crossed.add(&list.crossed());
         histories.extend(list.history());
         let counted = counted_of(&list);
         let lines = lines_of(&list);
@@ -365,6 +368,17 @@ fn main() {
         grouped(adds),
         grouped(empty)
     );
+    println!(
+        "unitigs opened: {}, a set filed while open in {}; pieces that name such a set {}, shows that give one {}",
+        grouped(crossed.opened),
+        grouped(crossed.with_sets),
+        grouped(crossed.pieces),
+        grouped(crossed.shown)
+    );
+    if 3 * crossed.with_sets < crossed.opened || crossed.pieces == 0 || crossed.shown == 0 {
+        println!("FAILED: too few sets filed while a unitig is open");
+        failed += 1;
+    }
     println!("lists that reach a bound, or hold a call on an empty set:");
     for (name, &count) in REACHED.iter().zip(&reached) {
         println!("  {name}: {}", grouped(count));
