@@ -143,7 +143,8 @@ fn order_of_add() {
     both.refuses(add(5, &[9]), 10);
     both.refuses(add(u32::MAX, &[9]), 10);
     both.refuses(add(3, &[9]), 11);
-    both.refuses(add(4, &[9]), 12);
+    both.refuses(add(4, &[9]), 2);
+    both.refuses(add(4, &[1]), 3);
     both.answers(close(4, Way::Line), 0);
     both.refuses(add(5, &[8]), 2);
     both.refuses(add(5, &[1, 1]), 2);
@@ -169,12 +170,36 @@ fn the_empty_set_is_filed_and_shown() {
     assert_eq!(both.buffers.records, file);
     assert_eq!(both.buffers.index, [0, 2, 5, 7]);
     both.answers(join(4, 3, false, &[(0, 2), (1, 258), (2, 514)]), 3);
-    both.refuses(add(5, &[]), 12);
+    both.refuses(add(5, &[]), 3);
     both.answers(close(5, Way::Line), 0);
     both.shows(show(0, 0, 0), &[]);
     both.refuses(show(0, 1, 0), 3);
     both.shows(show(0, 1, 1), &[5]);
     both.shows(show(0, 2, 3), &[]);
+}
+
+/// The open unitig, its runs and the held piece are as they were, and later pieces may name the set.
+#[test]
+fn a_set_is_filed_while_a_unitig_is_open() {
+    let mut both = Both::new(LENGTHS);
+    both.answers(add(1, &[5]), 2);
+    both.answers(join(2, 3, false, &[(0, 2)]), 3);
+    both.refuses(join(3, 2, false, &[(0, 2), (1, 258)]), 9);
+    let (open, before) = (both.plain.open.clone(), both.buffers.clone());
+    both.answers(add(3, &[0, 7]), 258);
+    assert_eq!(both.plain.open, open);
+    assert_eq!(both.state.current, Current::Open(3));
+    assert_eq!((both.state.used.open, both.state.used.held), (1, 1));
+    assert_eq!(both.buffers.open, before.open);
+    assert_eq!(both.buffers.held, before.held);
+    both.answers(add(3, &[0, 7]), 258);
+    both.refuses(join(2, 3, false, &[(0, 2)]), 10);
+    both.refuses(join(3, 2, false, &[(0, 2), (1, 258)]), 11);
+    both.answers(join(4, 2, false, &[(0, 2), (1, 258)]), 4);
+    both.answers(close(5, Way::Line), 0);
+    assert_eq!(both.plain.closed[0].coordinates, [2, 2, 2, 258]);
+    both.shows(show(0, 2, 1), &[5]);
+    both.shows(show(0, 3, 2), &[0, 7]);
 }
 
 #[test]
