@@ -1,7 +1,7 @@
 -- Request F-2, a set filed while a unitig is open: what an add is told and leaves, and what joins may name, after any list of calls. It follows from demand 3's law of one call.
 use Rattle.std.specs.Prelude.{ℕ, ◌+◌, ◌*◌, ◌/◌, ◌≡◌, Bool, true, false, not, ◌||◌, List, [], ◌∷◌, ◌++◌, map, length, get_or, ltb}
 use Rattle.std.proofs.Math.Option.{Option, none, some}
-use Rattle.base.specs.Answers.{done}
+use Rattle.base.specs.Answers.{done, refused}
 use Rattle.base.specs.Tests.{◌when◌else◌}
 use Rattle.codec.specs.Records.{file_of, record_of}
 use Rattle.store.specs.Demand.{LentCall, Seen, as_seen, record_file, seen, sent, store_run, store_step, updating}
@@ -62,6 +62,8 @@ pub record FiledBetween (ids : List ℕ) (p : Plain) (s : Store) (b : Bufs) (p' 
 pub record WhileOpen (p : Plain) (s : Store) (b : Bufs) : Type 0 where
   -- what an open unitig names stays named, however many sets are filed while it is open
   pub named : names_filed p.cell (open_coords p.cell.current) ≡ true
+  -- "Refusal 12 can no longer occur", whatever the call
+  pub no_12 : (c : LentCall) → (store_step s b c).0.answer ≡ refused 12 → ⊥
   -- "Add is allowed then"
   pub added : (ids : List ℕ) → (store_step s b (next p (add ids))).0 ≡ as_seen (add_reply p ids) []
   -- "the open unitig is untouched", and so are the closed ones, by any add

@@ -62,7 +62,8 @@ impl Random {
                     1 => one.index = short.index,
                     2 => one.open = short.open,
                     3 => one.held = short.held,
-                    4 => one.runs = short.runs,
+                    // The bytes of one unitig with so many runs: one that doesn't fit stays open, and nothing more is closed.
+                    4 => one.runs = 1 + 8 * self.between(1, 4),
                     _ => one.table = short.table,
                 }
                 one

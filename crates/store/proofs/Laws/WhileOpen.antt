@@ -3,11 +3,12 @@ use Prim.Native.Nat.{ℕ, ◌+◌, ◌/◌, ◌≤◌, ◌<◌}
 use mathlib.Core.Path.{◌≡◌, refl, sym, ap, ◌∙◌}
 use mathlib.Core.Bool.{Bool, true, false, not}
 use mathlib.Core.List.{List, [], ◌∷◌, ◌++◌, map}
-use mathlib.Core.Option.{Option}
+use mathlib.Core.Option.{Option, none, some}
 use native.Mathlib.Omega.{arith}
 use lib.ListN.{length, get_or, length-append}
 use lib.Seq.{get_or-append_seam}
-use borrow.Author.Tests.{eq-eqb, eqb-true, lt-ltb, ltb-true, ne_eqb, not-false}
+use lib.Dec.{eqb, ltb}
+use borrow.Author.Tests.{eq-eqb, eqb-false, eqb-true, lt-ltb, ltb-true, ne_eqb, not-false}
 use Rattle.std.proofs.Common.{Ok, Err, Some, None}
 use Rattle.base.specs.Answers.{Answer, done, refused}
 use Rattle.base.specs.Tests.{◌when◌else◌}
@@ -18,9 +19,9 @@ use Rattle.runs.specs.Words.{coordinate, coordinate_of}
 use Rattle.runs.proofs.Laws.Words.{place_of_lem, worker_of_lem}
 use Rattle.store.specs.Add.{add_cell, add_filed, add_step, add_test, after_add, same_add}
 use Rattle.store.specs.Altered.{altered}
-use Rattle.store.specs.Demand.{LentCall, Seen, as_seen, out_of, record_file, seen, sent, store_step, store_update, updated, updating}
+use Rattle.store.specs.Demand.{LentCall, Seen, as_seen, out_of, record_file, seen, sent, showing, store_step, store_update, updated, updating}
 use Rattle.store.specs.Numbered.{Gate, by_gate, numbered}
-use Rattle.store.specs.Plain.{Plain, Reply, Unitig, Update, Verdict, accept, accepted, add, add_tests, answer, effect, is_set, join, join_tests, name_sets, plain_step, plain_update, refusal, refuse, repeat, tests, verdict}
+use Rattle.store.specs.Plain.{Plain, Reply, SharedLengths, Unitig, Update, Verdict, Way, accept, accepted, add, add_tests, again, answer, close, close_tests, effect, equal_updates, ids_at, is_set, join, join_tests, name_sets, no_vertex, plain_show, plain_step, plain_update, refusal, refuse, repeat, shown, tests, verdict}
 use Rattle.store.specs.Start.{bad_lengths, bad_limits}
 use Rattle.store.specs.State.{Bufs, Outcome, after, lengths_of}
 use Rattle.store.specs.WhileOpen.{FiledBetween, WhileOpen, WhileOpenAfter, WhileOpenStatement, add_reply, names_filed, next, no_space_for, open_coords, unitigs_in}
@@ -121,6 +122,61 @@ module _ (p : Plain) (ids : List ℕ) where
   unfolding accepted effect
   join_same i n reversed piece = refl
 
+-- ---- 12 is told of no call
+
+not_12 : (n : ℕ) (t : Bool) (v : Verdict) → eqb n 12 ≡ false → (v ≡ refuse 12 → ⊥) → ◌when◌else◌ (refuse n) t v ≡ refuse 12 → ⊥
+unfolding ◌when◌else◌
+not_12 n true v h k e =
+    let x : n ≡ 12 = cc in
+    eqb-false n 12 h x
+not_12 n false v h k e = k e
+
+accept_not_12 : accept ≡ refuse 12 → ⊥
+accept_not_12 e = let z : ◌≡◌ {A = ℕ} 0 1 = cc in omega arith
+
+again_not_12 : (c : Option (Update × ℕ)) (u : Update) → again c u ≡ refuse 12 → ⊥
+unfolding again ◌when◌else◌
+again_not_12 none u e = let z : ◌≡◌ {A = ℕ} 11 12 = cc in omega arith
+again_not_12 (some (last, a)) u e = go (equal_updates last u) e
+  where
+    go : (t : Bool) → ◌when◌else◌ (repeat a) t (refuse 11) ≡ refuse 12 → ⊥
+    go true e = let z : ◌≡◌ {A = ℕ} 0 1 = cc in omega arith
+    go false e = let z : ◌≡◌ {A = ℕ} 11 12 = cc in omega arith
+
+close_not_12 : (us : List Unitig) (l : SharedLengths) (way : Way) (c : Option Unitig) → close_tests us l way c ≡ refuse 12 → ⊥
+unfolding close_tests
+close_not_12 us l way none e = let z : ◌≡◌ {A = ℕ} 13 12 = cc in omega arith
+close_not_12 us l way (some u) e = not_12 3 _ _ refl accept_not_12 e
+
+tests_not_12 : (p : Plain) (u : Update) → tests p u ≡ refuse 12 → ⊥
+unfolding tests add_tests join_tests
+tests_not_12 p (add ids) e = not_12 2 _ _ refl (not_12 3 _ _ refl accept_not_12) e
+tests_not_12 p (join n reversed piece) e = not_12 7 _ _ refl (not_12 6 _ _ refl (not_12 9 _ _ refl (not_12 8 _ _ refl (not_12 3 _ _ refl accept_not_12)))) e
+tests_not_12 p (close way) e = close_not_12 p.closed p.shared way p.cell.current e
+
+verdict_not_12 : (p : Plain) (i : ℕ) (u : Update) → verdict p i u ≡ refuse 12 → ⊥
+unfolding verdict ◌when◌else◌
+verdict_not_12 p i u e = not_12 10 _ _ refl (go (eqb i p.cell.last)) e
+  where
+    go : (t : Bool) → ◌when◌else◌ (again p.cell.call u) t (tests p u) ≡ refuse 12 → ⊥
+    go true e = again_not_12 p.cell.call u e
+    go false e = tests_not_12 p u e
+
+reply_not_12 : (p : Plain) (c : LentCall) → (as_seen (plain_step p (sent c)).0 (out_of c)).answer ≡ refused 12 → ⊥
+unfolding plain_step plain_update plain_show sent out_of as_seen ◌when◌else◌
+reply_not_12 p (updating i u) e = go (verdict p i u) (verdict_not_12 p i u) e
+  where
+    go : (v : Verdict) → (v ≡ refuse 12 → ⊥) → (as_seen (plain_update v p i u).0 []).answer ≡ refused 12 → ⊥
+    go (refuse n) k e = let z : n ≡ 12 = cc in k (ap refuse z)
+    go (repeat a) k e = let z : ◌≡◌ {A = ℕ} 0 1 = cc in omega arith
+    go accept k e = let z : ◌≡◌ {A = ℕ} 0 1 = cc in omega arith
+reply_not_12 p (showing unitig vertex out) e = go (no_vertex p unitig vertex) (ltb (length out) (length (ids_at p unitig vertex))) e
+  where
+    go : (t f : Bool) → (as_seen (◌when◌else◌ (refusal 14) t (◌when◌else◌ (refusal 3) f (shown (ids_at p unitig vertex)))) out).answer ≡ refused 12 → ⊥
+    go true f e = let z : ◌≡◌ {A = ℕ} 14 12 = cc in omega arith
+    go false true e = let z : ◌≡◌ {A = ℕ} 3 12 = cc in omega arith
+    go false false e = let z : ◌≡◌ {A = ℕ} 0 1 = cc in omega arith
+
 -- ---- the store
 
 -- one set more: its record more
@@ -205,6 +261,7 @@ module _ {p : Plain} {s : Store} {b : Bufs} (r : Rep p s b) where
   while_open =
       record {
         named = open_named r.cell.opened;
+        no_12 = λ c e. reply_not_12 p c (sym (ap (λ (x : Seen). x.answer) (step_ok r c).same) ∙ e);
         added = λ ids. (step_ok r (next p (add ids))).same ∙ ap (λ (x : Reply). as_seen x []) (add_told p ids);
         untouched = add_untouched s b;
         filed = filed_between;
