@@ -5,11 +5,11 @@ use Rattle.store.specs.Demand.{DemandStatement}
 use Rattle.store.specs.Empty.{EmptySetStatement}
 use Rattle.store.specs.History.{StoresOneHistoryStatement}
 use Rattle.store.specs.Once.{ExactlyOnceStatement}
-use Rattle.store.specs.WhileOpen.{WhileOpenStatement}
+use Rattle.store.specs.WhileOpen.{NeverTwelveStatement, WhileOpenStatement}
 use Rattle.store.proofs.Laws.Empty.{empty_set_lem}
 use Rattle.store.proofs.Laws.History.{stores_one_history}
 use Rattle.store.proofs.Laws.Proved.{demand_3, once_each}
-use Rattle.store.proofs.Laws.WhileOpen.{while_open_lem}
+use Rattle.store.proofs.Laws.WhileOpen.{never_12, while_open_lem}
 use Rattle.store.proofs.state.Store.start.Statement as start-s
 use Rattle.store.proofs.state.Store.start.Met as start-m
 use Rattle.store.proofs.state.Store.add.Statement as add-s
@@ -38,6 +38,8 @@ pub record Whole (M : Type 1) : Type 2 where
   pub empty_set : EmptySetStatement
   -- sets filed while a unitig is open: their add, their record, and what joins name then
   pub while_open : WhileOpenStatement
+  -- and no call is told 12
+  pub never_12 : NeverTwelveStatement
 
 pub whole : {M : Type 1} → Whole M
 whole =
@@ -53,4 +55,5 @@ whole =
       stores = stores_one_history;
       empty_set = empty_set_lem;
       while_open = while_open_lem;
+      never_12 = never_12;
     }

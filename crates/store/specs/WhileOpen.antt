@@ -1,9 +1,10 @@
--- Request F-2, a set filed while a unitig is open: what an add is told and leaves, and what joins may name, after any list of calls. It follows from demand 3's law of one call.
+-- Request F-2, a set filed while a unitig is open: what an add is told and leaves, and what joins may name, after any list of calls; and that 12 is told of no call.
 use Rattle.std.specs.Prelude.{ℕ, ◌+◌, ◌*◌, ◌/◌, ◌≡◌, Bool, true, false, not, ◌||◌, List, [], ◌∷◌, ◌++◌, map, length, get_or, ltb}
 use Rattle.std.proofs.Math.Option.{Option, none, some}
 use Rattle.base.specs.Answers.{done, refused}
 use Rattle.base.specs.Tests.{◌when◌else◌}
 use Rattle.codec.specs.Records.{file_of, record_of}
+use Rattle.runs.specs.Words.{coordinate}
 use Rattle.store.specs.Demand.{LentCall, Seen, as_seen, record_file, seen, sent, store_run, store_step, updating}
 use Rattle.store.specs.Plain.{Plain, PlainCell, Reply, Unitig, Update, add, answer, is_set, join, name_sets, plain_fresh, plain_run, plain_step, refusal}
 use Rattle.store.specs.Start.{start_step}
@@ -12,18 +13,33 @@ use Rattle.store.specs.declared.state.Current.{Current}
 use Rattle.store.specs.declared.state.Shared.{Shared}
 use Rattle.store.specs.declared.state.Store.{Store}
 
+-- ---- "Refusal 12 can no longer occur"
+
+-- no call is told it, in whatever state and over whatever buffers
+abbrev pub NeverTwelveStatement : Type 0
+NeverTwelveStatement = (s : Store) (b : Bufs) (call : LentCall) → (store_step s b call).0.answer ≡ refused 12 → ⊥
+
+-- ---- an add after a list of calls
+
 -- the vertices of the open unitig, each by its coordinate
 unfoldable pub open_coords : Option Unitig → List ℕ
 open_coords none = []
 open_coords (some u) = u.coords
 
--- each of these coordinates names a set that is filed
-abbrev pub names_filed : PlainCell → List ℕ → Bool
-names_filed c coords = name_sets c.W (length c.S) coords
+-- each of these coordinates names a set on file; and the set that one names
+abbrev pub name_filed : PlainCell → List ℕ → Bool
+name_filed c coords = name_sets c.W (length c.S) coords
+
+abbrev pub set_named : PlainCell → ℕ → List ℕ
+set_named c coord = get_or c.S (coord / 256) []
 
 -- the record file has no space for the record of these ids, or no index entry is free
 abbrev pub no_space_for : Plain → List ℕ → Bool
 no_space_for p ids = ltb p.cell.lengths.records (length (file_of p.N p.cell.S) + length (record_of p.N ids)) || ltb p.cell.lengths.index (length p.cell.S + 2)
+
+-- the coordinate of the next set
+abbrev pub next_coord : PlainCell → ℕ
+next_coord c = c.W + 256 * length c.S
 
 -- what an add of these ids with the next number is told, whether a unitig is open or not
 unfoldable pub add_reply : Plain → List ℕ → Reply
@@ -32,8 +48,7 @@ add_reply p ids =
     refusal 2 when not (is_set p.N ids) else
     -- 3, the record doesn't fit the rest of the file, or no index entry is free
     refusal 3 when no_space_for p ids else
-    -- its coordinate
-    answer (p.cell.W + 256 * length p.cell.S)
+    answer (next_coord p.cell)
 
 -- a call with the next number
 abbrev pub next : Plain → Update → LentCall
@@ -46,24 +61,30 @@ Unitigs = Current × (ℕ × List ℕ) × (ℕ × List ℕ) × Shared × List �
 abbrev pub unitigs_in : Store → Bufs → Unitigs
 unitigs_in s b = (s.cell.current, (s.cell.opened.used, b.cell.opened), (s.cell.held.used, b.cell.held), s.shared, b.shared.runs, b.shared.table)
 
--- of such an add that is not refused: what was before it, and what it leaves
+-- of an add of these ids with the next number that is not refused: what was before it, and what it leaves
 pub record FiledBetween (ids : List ℕ) (p : Plain) (s : Store) (b : Bufs) (p' : Plain) (s' : Store) (b' : Bufs) : Type 0 where
   -- "the set is filed immediately"
   pub file : record_file s'.cell b'.cell ≡ record_file s.cell b.cell ++ record_of p.N ids
-  -- "joins that come later may name the new coordinate": it names a set, and this one
-  pub new_names : names_filed p'.cell ((p.cell.W + 256 * length p.cell.S) ∷ []) ≡ true
-  pub new_set : get_or p'.cell.S ((p.cell.W + 256 * length p.cell.S) / 256) [] ≡ ids
-  -- and any older one as before: what could be joined can be, with the same answer
+  -- "joins that come later may name the new coordinate": it names a set on file, this one; and each older one names its own set
+  pub new_named : name_filed p'.cell (next_coord p.cell ∷ []) ≡ true
+  pub new_set : set_named p'.cell (next_coord p.cell) ≡ ids
+  pub old_sets : (coord : ℕ) → name_filed p.cell (coord ∷ []) ≡ true → set_named p'.cell coord ≡ set_named p.cell coord
+  -- a piece that could be joined before the add can be joined after it, with the same answer
   pub joins :
       (n : ℕ) (reversed : Bool) (piece : List ℕ) (count : ℕ) → (store_step s b (next p (join n reversed piece))).0 ≡ seen (done (count ∷ [])) []
       → (store_step s' b' (next p' (join n reversed piece))).0 ≡ seen (done (count ∷ [])) []
+  -- the last call is the add: sent again it has the same answer, and whatever bears the number before it is out of sequence
+  pub again : (store_step s' b' (next p (add ids))).0 ≡ (store_step s b (next p (add ids))).0
+  pub overtaken : (u : Update) → (store_step s' b' (updating p.cell.last u)).0 ≡ seen (refused 10) []
 
 -- of the store, its buffers and the plain store after a list of calls
 pub record WhileOpen (p : Plain) (s : Store) (b : Bufs) : Type 0 where
   -- what an open unitig names stays named, however many sets are filed while it is open
-  pub named : names_filed p.cell (open_coords p.cell.current) ≡ true
-  -- "Refusal 12 can no longer occur", whatever the call
-  pub no_12 : (c : LentCall) → (store_step s b c).0.answer ≡ refused 12 → ⊥
+  pub named : name_filed p.cell (open_coords p.cell.current) ≡ true
+  -- a join is never told 9 where its piece names sets on file, whenever they were filed
+  pub may_name :
+      (n : ℕ) (reversed : Bool) (piece : List ℕ) → name_filed p.cell (map coordinate piece) ≡ true
+      → (store_step s b (next p (join n reversed piece))).0.answer ≡ refused 9 → ⊥
   -- "Add is allowed then"
   pub added : (ids : List ℕ) → (store_step s b (next p (add ids))).0 ≡ as_seen (add_reply p ids) []
   -- "the open unitig is untouched", and so are the closed ones, by any add

@@ -62,8 +62,9 @@ impl Random {
                     1 => one.index = short.index,
                     2 => one.open = short.open,
                     3 => one.held = short.held,
-                    // The bytes of one unitig with so many runs: one that doesn't fit stays open, and nothing more is closed.
-                    4 => one.runs = 1 + 8 * self.between(1, 4),
+                    // A unitig that doesn't fit stays open, so that a longer run file is seldom filled: often one unitig's bytes.
+                    4 if self.flip() => one.runs = 1 + 8 * self.between(1, 4),
+                    4 => one.runs = short.runs,
                     _ => one.table = short.table,
                 }
                 one
@@ -118,7 +119,8 @@ impl Random {
         }
     }
 
-    pub fn call(&mut self, plain: &Plain, shape: &Shape) -> Call {
+    /// `overtaken` is the accepted call before the last one, with its number.
+    pub fn call(&mut self, plain: &Plain, shape: &Shape, overtaken: Option<&(u32, Deed)>) -> Call {
         if self.below(100) < 22 {
             return self.look(plain);
         }
@@ -132,6 +134,11 @@ impl Random {
                 10..15 => {
                     let deed = self.changed(deed, plain);
                     return Call::Numbered { number, deed };
+                }
+                15..18 => {
+                    if let Some((number, deed)) = overtaken.cloned() {
+                        return Call::Numbered { number, deed };
+                    }
                 }
                 _ => {}
             }

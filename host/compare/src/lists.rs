@@ -68,8 +68,9 @@ impl List {
 
     fn fill(&mut self, mut state: State, mut plain: Plain, random: &mut Random, shape: &Shape) {
         let (mut ids_sent, mut runs_sent, mut room_lent) = (0, 0, 0);
+        let mut overtaken = None;
         while self.calls.len() < shape.calls {
-            let call = random.call(&plain, shape);
+            let call = random.call(&plain, shape, overtaken.as_ref());
             match &call {
                 Call::Show { room, .. } => room_lent += room,
                 Call::Numbered { deed, .. } => match deed {
@@ -84,7 +85,17 @@ impl List {
             let before = state.number;
             let (after, told) = state.call(&call, &mut self.buffers);
             state = after;
+            let last = plain
+                .accepted
+                .as_ref()
+                .map(|(deed, _)| (plain.last, deed.clone()));
             let plainly = plain.call(&call);
+            if last
+                .as_ref()
+                .is_some_and(|(number, _)| *number != plain.last)
+            {
+                overtaken = last;
+            }
             if number(&told) != number(&plainly) || told.as_ref().ok() != plainly.as_ref().ok() {
                 self.differences.push(format!(
                     "call {}, {call:?}: over buffers {told:?}, plain {plainly:?}",
@@ -138,13 +149,15 @@ impl List {
 }
 
 /// How a list's sets and unitigs cross: how many unitigs were opened, in how many of them a set was filed while they were open, how
-/// many pieces joined to them name such a set, and how many shows of a closed one give such a set.
+/// many pieces joined to them name such a set, how many shows of a closed one give such a set, and how many joins were sent again
+/// after such a set.
 #[derive(Default)]
 pub struct Crossed {
     pub opened: u64,
     pub with_sets: u64,
     pub pieces: u64,
     pub shown: u64,
+    pub overtaken: u64,
 }
 
 impl Crossed {
@@ -153,6 +166,7 @@ impl Crossed {
         self.with_sets += more.with_sets;
         self.pieces += more.pieces;
         self.shown += more.shown;
+        self.overtaken += more.overtaken;
     }
 }
 
@@ -164,6 +178,8 @@ impl List {
         let mut open: Option<u64> = None;
         let mut closed = Vec::new();
         let mut with_set = false;
+        // The join that came just before the last accepted call, an add.
+        let (mut join, mut overtaken) = (None, None);
         let calls = self.calls.iter().zip(&self.told).zip(&self.accepted);
         for ((call, told), &accepted) in calls {
             match call {
@@ -174,22 +190,34 @@ impl List {
                 Call::Numbered { deed, .. } if accepted => match deed {
                     Deed::Add { .. } => {
                         sets += 1;
-                        crossed.with_sets += u64::from(open.is_some() && !with_set);
-                        with_set = true;
+                        overtaken = join.take();
+                        if open.is_some() {
+                            crossed.with_sets += u64::from(!with_set);
+                            with_set = true;
+                        }
                     }
-                    Deed::Join { runs, .. } => match open {
-                        None => {
-                            crossed.opened += 1;
-                            open = Some(sets);
-                            with_set = false;
+                    Deed::Join { runs, .. } => {
+                        (join, overtaken) = (Some(call), None);
+                        match open {
+                            None => {
+                                crossed.opened += 1;
+                                open = Some(sets);
+                                with_set = false;
+                            }
+                            Some(before) => {
+                                let new = |&run: &u64| coordinate(run) / 256 >= before;
+                                crossed.pieces += u64::from(runs.iter().any(new));
+                            }
                         }
-                        Some(before) => {
-                            let new = |&run: &u64| coordinate(run) / 256 >= before;
-                            crossed.pieces += u64::from(runs.iter().any(new));
-                        }
-                    },
-                    Deed::Close(_) => closed.extend(open.take()),
+                    }
+                    Deed::Close(_) => {
+                        (join, overtaken) = (None, None);
+                        closed.extend(open.take());
+                    }
                 },
+                _ if overtaken == Some(call) => {
+                    crossed.overtaken += u64::from(*told == Err(Clause::NumberFar));
+                }
                 _ => {}
             }
         }

@@ -105,7 +105,8 @@ pub enum Clause {
 }
 
 impl Clause {
-    /// The refusal's number in the specification. No refusal has the number 12 any more: it was an add's while a unitig is open.
+    /// The refusal's number in the specification. No refusal has the number 12: it was that of an add while a unitig
+    /// was open, which is accepted now.
     pub fn number(self) -> u32 {
         match self {
             Clause::Colors | Clause::Worker => 1,

@@ -202,7 +202,7 @@ file_twice = (0x01 ∷ 0x01 ∷ 0x02 ∷ 0x62 ∷ 0x01 ∷ 0x01 ∷ 0x01 ∷ [],
 
 -- ---- a set filed while a unitig is open
 
--- over buffers just large enough; a coordinate names no set before its add, and one behind it
+-- over buffers just large enough; a coordinate names no set before its add, and names one after it
 abbrev while_open : Case
 while_open =
     over_room (room 6 3 2 2 17 2)
@@ -226,7 +226,7 @@ while_open =
     ∷ []
     )
 
--- the record file and its index as of two sets filed first; the open runs; the piece as sent; the runs (0,2)(3,258) as bytes; the table
+-- the record file and its index as if both sets had been filed first; the open runs; the piece as sent; the runs (0,2)(3,258) as bytes; the table
 abbrev left_open : Bufs
 left_open =
     bufs (0x02 ∷ 0x62 ∷ 0x01 ∷ 0x02 ∷ 0x1A ∷ 0x08 ∷ []) (0 ∷ 3 ∷ 6 ∷ []) (pack 0 2 ∷ pack 3 258 ∷ []) turned

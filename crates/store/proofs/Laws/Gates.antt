@@ -61,7 +61,7 @@ unfolding ◌when◌else◌
 refuse_accept r true v e = let z : ◌≡◌ {A = ℕ} 0 1 = cc in absurd (omega arith)
 refuse_accept r false v e = (refl, e)
 
--- what is accepted still is where less is turned down
+-- what is accepted stays accepted where less is turned down
 pub refuse_less : (r : ℕ) {t u : Bool} {v w : Verdict} → (t ≡ false → u ≡ false) → (v ≡ accept → w ≡ accept) → ◌when◌else◌ (refuse r) t v ≡ accept → ◌when◌else◌ (refuse r) u w ≡ accept
 unfolding ◌when◌else◌
 refuse_less r {t} {u} {v} {w} h k e =

@@ -1,31 +1,33 @@
--- Sets filed while a unitig is open: what an add is told and leaves, and what may be named behind it.
+-- Sets filed while a unitig is open: what an add is told and leaves, what may be named after it, and that 12 is told of no call.
 use Prim.Native.Nat.{ℕ, ◌+◌, ◌/◌, ◌≤◌, ◌<◌}
 use mathlib.Core.Path.{◌≡◌, refl, sym, ap, ◌∙◌}
 use mathlib.Core.Bool.{Bool, true, false, not}
 use mathlib.Core.List.{List, [], ◌∷◌, ◌++◌, map}
 use mathlib.Core.Option.{Option, none, some}
 use native.Mathlib.Omega.{arith}
-use lib.ListN.{length, get_or, length-append}
+use lib.ListN.{length, get_or, length-append, get_or-append}
 use lib.Seq.{get_or-append_seam}
 use lib.Dec.{eqb, ltb}
 use borrow.Author.Tests.{eq-eqb, eqb-false, eqb-true, lt-ltb, ltb-true, ne_eqb, not-false}
 use Rattle.std.proofs.Common.{Ok, Err, Some, None}
-use Rattle.base.specs.Answers.{Answer, done, refused}
+use Rattle.base.specs.Answers.{Answer, done, refused, number_of}
 use Rattle.base.specs.Tests.{◌when◌else◌}
 use Rattle.base.proofs.All.{All, all_less}
-use Rattle.base.proofs.Bools.{and_both, and_true, not_no}
+use Rattle.base.proofs.Bools.{and_both, and_true, not_no, or_right}
 use Rattle.codec.specs.Records.{record_of, file_of}
-use Rattle.runs.specs.Words.{coordinate, coordinate_of}
+use Rattle.runs.specs.Words.{coordinate}
 use Rattle.runs.proofs.Laws.Words.{place_of_lem, worker_of_lem}
 use Rattle.store.specs.Add.{add_cell, add_filed, add_step, add_test, after_add, same_add}
 use Rattle.store.specs.Altered.{altered}
 use Rattle.store.specs.Demand.{LentCall, Seen, as_seen, out_of, record_file, seen, sent, showing, store_step, store_update, updated, updating}
 use Rattle.store.specs.Numbered.{Gate, by_gate, numbered}
-use Rattle.store.specs.Plain.{Plain, Reply, SharedLengths, Unitig, Update, Verdict, Way, accept, accepted, add, add_tests, again, answer, close, close_tests, effect, equal_updates, ids_at, is_set, join, join_tests, name_sets, no_vertex, plain_show, plain_step, plain_update, refusal, refuse, repeat, shown, tests, verdict}
+use Rattle.store.specs.Plain.{Plain, Reply, Unitig, Update, Verdict, accept, accepted, add, add_tests, again, answer, close, effect, equal_updates, is_set, join, join_tests, name_sets, plain_step, plain_update, refusal, refuse, repeat, tests, verdict, equal}
 use Rattle.store.specs.Start.{bad_lengths, bad_limits}
 use Rattle.store.specs.State.{Bufs, Outcome, after, lengths_of}
-use Rattle.store.specs.WhileOpen.{FiledBetween, WhileOpen, WhileOpenAfter, WhileOpenStatement, add_reply, names_filed, next, no_space_for, open_coords, unitigs_in}
+use Rattle.store.specs.WhileOpen.{FiledBetween, WhileOpen, WhileOpenAfter, WhileOpenStatement, add_reply, name_filed, next, no_space_for, open_coords, unitigs_in, NeverTwelveStatement, next_coord, set_named}
 use Rattle.store.specs.declared.state.Current.{Current}
+use Rattle.store.specs.declared.state.Cell.{Cell}
+use Rattle.store.specs.declared.state.Shared.{Shared}
 use Rattle.store.specs.declared.state.Store.{Store}
 use Rattle.store.proofs.Laws.Accepted.{tests_not_repeat}
 use Rattle.store.proofs.Laws.Adds.{set_more}
@@ -36,6 +38,11 @@ use Rattle.store.proofs.Laws.Rep.{Named, OpenRep, Rep}
 use Rattle.store.proofs.Laws.Rep as rep
 use Rattle.store.proofs.Laws.Trace.{step_ok}
 use Rattle.store.proofs.Laws.Unitigs.{named_more}
+use Rattle.base.specs.Parts.{over}
+use Rattle.base.proofs.Answers.{no_12}
+use Rattle.store.specs.Join.{join_cell, join_filed_at, join_step}
+use Rattle.store.specs.Close.{close_cell, close_filed_of, close_step}
+use Rattle.store.specs.Show.{show_step, shown_by}
 
 -- ---- the plain store's test of what coordinates name
 
@@ -75,7 +82,17 @@ next_goes : (p : Plain) (u : Update) → tests p u ≡ accept → plain_step p (
 unfolding plain_step plain_update sent
 next_goes p u e = rw (next_number p u, e)
 
--- and that they found nothing where it is answered
+-- a refusal that it is told is one of its tests
+refused_by : (p : Plain) (u : Update) (k : ℕ) → (as_seen (plain_step p (sent (next p u))).0 []).answer ≡ refused k → tests p u ≡ refuse k
+unfolding plain_step plain_update sent as_seen
+refused_by p u k e = go (tests p u) refl (rw (next_number p u) at e)
+  where
+    go : (v : Verdict) → tests p u ≡ v → (as_seen (plain_update v p (p.cell.last + 1) u).0 []).answer ≡ refused k → tests p u ≡ refuse k
+    go (refuse n) q e = let z : n ≡ k = cc in q ∙ ap refuse z
+    go (repeat b) q e = let z : ◌≡◌ {A = ℕ} 0 1 = cc in absurd (omega arith)
+    go accept q e = let z : ◌≡◌ {A = ℕ} 0 1 = cc in absurd (omega arith)
+
+-- and they found nothing where it is answered
 answered : (p : Plain) (u : Update) (a : ℕ) → as_seen (plain_step p (sent (next p u))).0 [] ≡ seen (done (a ∷ [])) [] → (tests p u ≡ accept) × ((effect p u).0 ≡ a)
 unfolding plain_step plain_update sent as_seen
 answered p u a e = go (tests p u) refl (rw (next_number p u) at e)
@@ -89,7 +106,35 @@ answered p u a e = go (tests p u) refl (rw (next_number p u) at e)
         let x : done ((effect p u).0 ∷ []) ≡ done (a ∷ []) = ap (λ (x : Seen). x.answer) e in
         (q, cc)
 
+-- a refusal of another number, or by a later test
+refused_later : (k n : ℕ) (t : Bool) (v : Verdict) → eqb n k ≡ false → (v ≡ refuse k → ⊥) → ◌when◌else◌ (refuse n) t v ≡ refuse k → ⊥
+unfolding ◌when◌else◌
+refused_later k n true v h f e =
+    let x : n ≡ k = cc in
+    eqb-false n k h x
+refused_later k n false v h f e = f e
+
+passed : (n : ℕ) (t : Bool) {v w : Verdict} → t ≡ true → ◌when◌else◌ (refuse n) (not t) v ≡ w → v ≡ w
+unfolding ◌when◌else◌
+passed n t h e = rw h at e
+
+not_accept : (k : ℕ) → accept ≡ refuse k → ⊥
+not_accept k e = let z : ◌≡◌ {A = ℕ} 0 1 = cc in omega arith
+
+-- a join whose piece names sets on file
+names_pass : (p : Plain) (n : ℕ) (reversed : Bool) (piece : List ℕ) → name_filed p.cell (map coordinate piece) ≡ true → tests p (join n reversed piece) ≡ refuse 9 → ⊥
+unfolding tests join_tests
+names_pass p n reversed piece h e =
+    refused_later 9 7 _ _ refl (
+    refused_later 9 6 _ _ refl (λ f.
+    refused_later 9 8 _ _ refl (refused_later 9 3 _ _ refl (not_accept 9)) (passed 9 (name_filed p.cell (map coordinate piece)) h f))) e
+
 -- ---- an add with the next number
+
+equal_self : (xs : List ℕ) → equal xs xs ≡ true
+unfolding equal
+equal_self [] = refl
+equal_self (x ∷ xs) = rw (eq-eqb x x refl, equal_self xs)
 
 told_by_lem : (s f : Bool) (p : Plain) (i : ℕ) (u : Update)
     → (plain_update (◌when◌else◌ (refuse 2) s (◌when◌else◌ (refuse 3) f accept)) p i u).0 ≡ ◌when◌else◌ (refusal 2) s (◌when◌else◌ (refusal 3) f (answer (effect p u).0))
@@ -107,7 +152,7 @@ module _ (p : Plain) (ids : List ℕ) where
   unfolding tests add_tests ◌when◌else◌
   add_taken s f = rw (s, f)
 
-  -- a join is tested behind it as before, but that more sets may be named
+  -- a join is tested after it as before, except that more sets may be named
   join_taken : (i n : ℕ) (reversed : Bool) (piece : List ℕ) → tests p (join n reversed piece) ≡ accept
       → tests (accepted p i (add ids) (effect p (add ids))) (join n reversed piece) ≡ accept
   unfolding tests join_tests accepted effect ◌when◌else◌
@@ -122,60 +167,20 @@ module _ (p : Plain) (ids : List ℕ) where
   unfolding accepted effect
   join_same i n reversed piece = refl
 
--- ---- 12 is told of no call
+  -- sent again it is a repeat
+  told_again : (plain_step (accepted p (p.cell.last + 1) (add ids) (effect p (add ids))) (sent (next p (add ids)))).0 ≡ answer (effect p (add ids)).0
+  unfolding plain_step plain_update sent verdict again equal_updates accepted ◌when◌else◌
+  told_again =
+      let z : p.cell.last + 1 ≡ 0 → ⊥ = λ e. omega arith in
+      rw (ne_eqb _ _ z, eq-eqb (p.cell.last + 1) _ refl, equal_self ids)
 
-not_12 : (n : ℕ) (t : Bool) (v : Verdict) → eqb n 12 ≡ false → (v ≡ refuse 12 → ⊥) → ◌when◌else◌ (refuse n) t v ≡ refuse 12 → ⊥
-unfolding ◌when◌else◌
-not_12 n true v h k e =
-    let x : n ≡ 12 = cc in
-    eqb-false n 12 h x
-not_12 n false v h k e = k e
-
-accept_not_12 : accept ≡ refuse 12 → ⊥
-accept_not_12 e = let z : ◌≡◌ {A = ℕ} 0 1 = cc in omega arith
-
-again_not_12 : (c : Option (Update × ℕ)) (u : Update) → again c u ≡ refuse 12 → ⊥
-unfolding again ◌when◌else◌
-again_not_12 none u e = let z : ◌≡◌ {A = ℕ} 11 12 = cc in omega arith
-again_not_12 (some (last, a)) u e = go (equal_updates last u) e
-  where
-    go : (t : Bool) → ◌when◌else◌ (repeat a) t (refuse 11) ≡ refuse 12 → ⊥
-    go true e = let z : ◌≡◌ {A = ℕ} 0 1 = cc in omega arith
-    go false e = let z : ◌≡◌ {A = ℕ} 11 12 = cc in omega arith
-
-close_not_12 : (us : List Unitig) (l : SharedLengths) (way : Way) (c : Option Unitig) → close_tests us l way c ≡ refuse 12 → ⊥
-unfolding close_tests
-close_not_12 us l way none e = let z : ◌≡◌ {A = ℕ} 13 12 = cc in omega arith
-close_not_12 us l way (some u) e = not_12 3 _ _ refl accept_not_12 e
-
-tests_not_12 : (p : Plain) (u : Update) → tests p u ≡ refuse 12 → ⊥
-unfolding tests add_tests join_tests
-tests_not_12 p (add ids) e = not_12 2 _ _ refl (not_12 3 _ _ refl accept_not_12) e
-tests_not_12 p (join n reversed piece) e = not_12 7 _ _ refl (not_12 6 _ _ refl (not_12 9 _ _ refl (not_12 8 _ _ refl (not_12 3 _ _ refl accept_not_12)))) e
-tests_not_12 p (close way) e = close_not_12 p.closed p.shared way p.cell.current e
-
-verdict_not_12 : (p : Plain) (i : ℕ) (u : Update) → verdict p i u ≡ refuse 12 → ⊥
-unfolding verdict ◌when◌else◌
-verdict_not_12 p i u e = not_12 10 _ _ refl (go (eqb i p.cell.last)) e
-  where
-    go : (t : Bool) → ◌when◌else◌ (again p.cell.call u) t (tests p u) ≡ refuse 12 → ⊥
-    go true e = again_not_12 p.cell.call u e
-    go false e = tests_not_12 p u e
-
-reply_not_12 : (p : Plain) (c : LentCall) → (as_seen (plain_step p (sent c)).0 (out_of c)).answer ≡ refused 12 → ⊥
-unfolding plain_step plain_update plain_show sent out_of as_seen ◌when◌else◌
-reply_not_12 p (updating i u) e = go (verdict p i u) (verdict_not_12 p i u) e
-  where
-    go : (v : Verdict) → (v ≡ refuse 12 → ⊥) → (as_seen (plain_update v p i u).0 []).answer ≡ refused 12 → ⊥
-    go (refuse n) k e = let z : n ≡ 12 = cc in k (ap refuse z)
-    go (repeat a) k e = let z : ◌≡◌ {A = ℕ} 0 1 = cc in omega arith
-    go accept k e = let z : ◌≡◌ {A = ℕ} 0 1 = cc in omega arith
-reply_not_12 p (showing unitig vertex out) e = go (no_vertex p unitig vertex) (ltb (length out) (length (ids_at p unitig vertex))) e
-  where
-    go : (t f : Bool) → (as_seen (◌when◌else◌ (refusal 14) t (◌when◌else◌ (refusal 3) f (shown (ids_at p unitig vertex)))) out).answer ≡ refused 12 → ⊥
-    go true f e = let z : ◌≡◌ {A = ℕ} 14 12 = cc in omega arith
-    go false true e = let z : ◌≡◌ {A = ℕ} 3 12 = cc in omega arith
-    go false false e = let z : ◌≡◌ {A = ℕ} 0 1 = cc in omega arith
+  -- and the number before it is neither the last nor the next
+  told_late : (u : Update) → (plain_step (accepted p (p.cell.last + 1) (add ids) (effect p (add ids))) (sent (updating p.cell.last u))).0 ≡ refusal 10
+  unfolding plain_step plain_update sent verdict accepted ◌when◌else◌
+  told_late u =
+      let m : p.cell.last ≡ p.cell.last + 1 → ⊥ = λ e. omega arith in
+      let n : p.cell.last ≡ p.cell.last + 1 + 1 → ⊥ = λ e. omega arith in
+      rw (ne_eqb _ _ m, ne_eqb _ _ n, or_right (eqb p.cell.last 0) true refl)
 
 -- ---- the store
 
@@ -220,23 +225,36 @@ module _ {p : Plain} {s : Store} {b : Bufs} (r : Rep p s b) where
     rep_after : Rep p' (store_step s b (next p (add ids))).1 (store_step s b (next p (add ids))).2
     rep_after = rw goes at (step_ok r (next p (add ids))).rep
 
-    -- the sets behind the add, and the coordinate that it answered
+    -- the coordinate that it answers
     abbrev coord : ℕ
-    coord = coordinate_of p.cell.W (length p.cell.S)
+    coord = next_coord p.cell
 
     small : p.cell.W < 256
     small = omega (arith, r.cell.narrow)
 
-    names_new : names_filed p'.cell (coord ∷ []) ≡ true
+    new_named : name_filed p'.cell (coord ∷ []) ≡ true
     unfolding accepted effect
-    names_new =
+    new_named =
         let here : length p.cell.S < length (p.cell.S ++ (ids ∷ [])) = omega (arith, length-append p.cell.S (ids ∷ [])) in
         told_names p.cell.W (length (p.cell.S ++ (ids ∷ []))) (coord ∷ [])
         (record { own = worker_of_lem p.cell.W (length p.cell.S) small; low = rw (place_of_lem p.cell.W (length p.cell.S) small) here }, tt)
 
-    set_new : get_or p'.cell.S (coord / 256) [] ≡ ids
+    new_set : set_named p'.cell coord ≡ ids
     unfolding accepted effect
-    set_new = ap (λ (k : ℕ). get_or (p.cell.S ++ (ids ∷ [])) k []) (place_of_lem p.cell.W (length p.cell.S) small) ∙ get_or-append_seam p.cell.S ids [] []
+    new_set = ap (λ (k : ℕ). get_or (p.cell.S ++ (ids ∷ [])) k []) (place_of_lem p.cell.W (length p.cell.S) small) ∙ get_or-append_seam p.cell.S ids [] []
+
+    old_sets : (coord : ℕ) → name_filed p.cell (coord ∷ []) ≡ true → set_named p'.cell coord ≡ set_named p.cell coord
+    unfolding accepted effect
+    old_sets coord h = get_or-append p.cell.S (ids ∷ []) [] (coord / 256) (names_told p.cell.W (length p.cell.S) (coord ∷ []) h).0.low
+
+    sent_again : (store_step (store_step s b (next p (add ids))).1 (store_step s b (next p (add ids))).2 (next p (add ids))).0 ≡ (store_step s b (next p (add ids))).0
+    sent_again =
+        (step_ok rep_after (next p (add ids))).same ∙ ap (λ (x : Reply). as_seen x (out_of (next p (add ids)))) (told_again p ids ∙ sym (ap (λ (x : Reply × Plain). x.0) goes))
+        ∙ sym (step_ok r (next p (add ids))).same
+
+    overtaken : (u : Update) → (store_step (store_step s b (next p (add ids))).1 (store_step s b (next p (add ids))).2 (updating p.cell.last u)).0 ≡ seen (refused 10) []
+    unfolding out_of as_seen
+    overtaken u = (step_ok rep_after (updating p.cell.last u)).same ∙ rw (told_late p ids u)
 
     joins_later : (n : ℕ) (reversed : Bool) (piece : List ℕ) (count : ℕ) → (store_step s b (next p (join n reversed piece))).0 ≡ seen (done (count ∷ [])) []
         → (store_step (store_step s b (next p (add ids))).1 (store_step s b (next p (add ids))).2 (next p' (join n reversed piece))).0 ≡ seen (done (count ∷ [])) []
@@ -251,9 +269,12 @@ module _ {p : Plain} {s : Store} {b : Bufs} (r : Rep p s b) where
         rw goes
         (record {
           file = files_it (p.cell.last + 1) ids r rep_after;
-          new_names = names_new;
-          new_set = set_new;
+          new_named = new_named;
+          new_set = new_set;
+          old_sets = old_sets;
           joins = joins_later;
+          again = sent_again;
+          overtaken = overtaken;
         })
 
   pub while_open : WhileOpen p s b
@@ -261,7 +282,10 @@ module _ {p : Plain} {s : Store} {b : Bufs} (r : Rep p s b) where
   while_open =
       record {
         named = open_named r.cell.opened;
-        no_12 = λ c e. reply_not_12 p c (sym (ap (λ (x : Seen). x.answer) (step_ok r c).same) ∙ e);
+        may_name =
+            λ n reversed piece h e.
+            names_pass p n reversed piece h
+            (refused_by p (join n reversed piece) 9 (sym (ap (λ (x : Seen). x.answer) (step_ok r (next p (join n reversed piece))).same) ∙ e));
         added = λ ids. (step_ok r (next p (add ids))).same ∙ ap (λ (x : Reply). as_seen x []) (add_told p ids);
         untouched = add_untouched s b;
         filed = filed_between;
@@ -275,3 +299,45 @@ pub while_open_lem : WhileOpenStatement
 while_open_lem N W b b' s e calls =
     let k = began N W b b' s e in
     rw (k.state, k.bufs) (while_open_fresh N W b k.limits k.lengths calls)
+
+-- ---- 12 is told of no call
+
+done_not_12 : (values : List ℕ) → done values ≡ refused 12 → ⊥
+done_not_12 values e = let z : ◌≡◌ {A = ℕ} 0 1 = cc in omega arith
+
+-- a call that goes through a gate is told a refusal by its number, or an answer
+gate_not_12 : {R : Type 0} (g : Gate) (told : Answer → R) (go : R) (of : R → Answer) → ((a : Answer) → of (told a) ≡ a) → (of go ≡ refused 12 → ⊥) → of (by_gate g told go) ≡ refused 12 → ⊥
+unfolding by_gate
+gate_not_12 (Err r) told go of t h e =
+    let z : refused (number_of r) ≡ refused 12 = sym (t (refused (number_of r))) ∙ e in
+    no_12 r cc
+gate_not_12 (Ok (Some a)) told go of t h e = done_not_12 (a ∷ []) (sym (t (done (a ∷ []))) ∙ e)
+gate_not_12 (Ok None) told go of t h e = h e
+
+-- 15 stands before it
+after_15 : (t : Bool) (s : Store) (b : Bufs) (o : Outcome) → (o.0 ≡ refused 12 → ⊥) → (updated (◌when◌else◌ (refused 15, s, b) t o)).0.answer ≡ refused 12 → ⊥
+unfolding ◌when◌else◌
+after_15 true s b o h e = let z : ◌≡◌ {A = ℕ} 15 12 = cc in omega arith
+after_15 false s b o h e = h e
+
+show_not_12 : (t u : Bool) (found : Option (List ℕ)) (out : List ℕ) → (◌when◌else◌ {A = Answer × List ℕ} (refused 15, out) t (◌when◌else◌ (refused 14, out) u (shown_by found out))).0 ≡ refused 12 → ⊥
+unfolding shown_by ◌when◌else◌
+show_not_12 true u found out e = let z : ◌≡◌ {A = ℕ} 15 12 = cc in omega arith
+show_not_12 false true found out e = let z : ◌≡◌ {A = ℕ} 14 12 = cc in omega arith
+show_not_12 false false none out e = let z : ◌≡◌ {A = ℕ} 5 12 = cc in omega arith
+show_not_12 false false (some ids) out e = by (ltb (length out) (length ids)) e
+  where
+    by : (t : Bool) → (◌when◌else◌ {A = Answer × List ℕ} (refused 3, out) t (done (length ids ∷ []), over ids out)).0 ≡ refused 12 → ⊥
+    by true e = let z : ◌≡◌ {A = ℕ} 3 12 = cc in omega arith
+    by false e = done_not_12 (length ids ∷ []) e
+
+update_not_12 : (s : Store) (b : Bufs) (i : ℕ) (u : Update) → (updated (store_update s b i u)).0.answer ≡ refused 12 → ⊥
+unfolding store_update add_step add_cell add_filed join_step join_cell join_filed_at close_step close_cell close_filed_of
+update_not_12 s b i (add ids) e = after_15 _ s b _ (gate_not_12 {R = Answer × Cell × List ℕ × List ℕ} _ _ _ (λ r. r.0) (λ a. refl) (done_not_12 _)) e
+update_not_12 s b i (join n reversed piece) e = after_15 _ s b _ (gate_not_12 {R = Answer × Cell × List ℕ × List ℕ} _ _ _ (λ r. r.0) (λ a. refl) (done_not_12 _)) e
+update_not_12 s b i (close way) e = after_15 _ s b _ (gate_not_12 {R = Answer × Cell × Shared × List ℕ × List ℕ} _ _ _ (λ r. r.0) (λ a. refl) (done_not_12 _)) e
+
+pub never_12 : NeverTwelveStatement
+unfolding store_step show_step
+never_12 s b (updating i u) e = update_not_12 s b i u e
+never_12 s b (showing unitig vertex out) e = show_not_12 _ _ _ out e

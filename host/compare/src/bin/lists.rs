@@ -2,9 +2,9 @@
 //! models of the store and the proved programs `roadfinch` (as command lines) and `sessions` (as numbers), which must have been
 //! built. Every line that a program answers is compared with the model's. SEED begins the lists (1): the same two numbers repeat
 //! the same run. The stores of one colour count are then compared, each with each: the record bytes of the one are the beginning
-//! of the other's exactly when its accepted sets are. Exits with 1 where an answer or such a pair differs, or where a refusal that
-//! calls can reach, a bound, what can become of an empty set, or of a set filed while a unitig is open, was not met, as far fewer
-//! calls may not.
+//! of the other's exactly when its accepted sets are. Exits with 1 where an answer or such a pair differs; where a refusal that calls
+//! can reach, a bound, or what can become of an empty set, was not met; or where a set was filed in fewer than a third of the unitigs
+//! while they were open, or no piece named one, no show gave one, or no join was sent again after one: as with far fewer calls.
 
 use compare::commands::{Line, lines_of};
 use compare::lists::{Crossed, History, List, REACHED, Told};
@@ -369,14 +369,16 @@ fn main() {
         grouped(empty)
     );
     println!(
-        "unitigs opened: {}, a set filed while open in {}; pieces that name such a set {}, shows that give one {}",
+        "unitigs opened: {}, a set filed while open in {}; pieces that name such a set {}, shows that give one {}, joins sent again after one {}",
         grouped(crossed.opened),
         grouped(crossed.with_sets),
         grouped(crossed.pieces),
-        grouped(crossed.shown)
+        grouped(crossed.shown),
+        grouped(crossed.overtaken)
     );
-    if 3 * crossed.with_sets < crossed.opened || crossed.pieces == 0 || crossed.shown == 0 {
-        println!("FAILED: too few sets filed while a unitig is open");
+    let met = [crossed.pieces, crossed.shown, crossed.overtaken];
+    if 3 * crossed.with_sets < crossed.opened || met.contains(&0) {
+        println!("FAILED: too few sets filed while a unitig is open, or not met again");
         failed += 1;
     }
     println!("lists that reach a bound, or hold a call on an empty set:");
