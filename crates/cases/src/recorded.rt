@@ -120,7 +120,7 @@ impl<'a> Recorded<'a> {
     }
 
     // An output that holds these items from its front.
-    pub fn holding<T>(&self, alloc: Global, items: &[u64]) -> Result<Vec<T>, AllocError>
+    pub(crate) fn holding<T>(&self, alloc: Global, items: &[u64]) -> Result<Vec<T>, AllocError>
     where
         T: Narrow + From<u8>,
         ensures { IfOk result (λ places. vec_len places ≡ 2048) }
@@ -131,12 +131,12 @@ impl<'a> Recorded<'a> {
     }
 
     // As many places of an output as are lent, or all where it has fewer.
-    pub fn lent<'b, T>(&self, output: &'b mut [T]) -> &'b mut [T] {
+    pub(crate) fn lent<'b, T>(&self, output: &'b mut [T]) -> &'b mut [T] {
         split_front(output, self.space).0
     }
 
     // Whether the answer is the one of the line, and the output holds what it says, with nothing altered behind it.
-    pub fn agrees<T>(&self, answer: Answer, output: &[T]) -> bool
+    pub(crate) fn agrees<T>(&self, answer: Answer, output: &[T]) -> bool
     where
         T: Into<u64> + Copy,
     {

@@ -43,7 +43,7 @@ fn written<T: From<u8> + PartialEq + Drop>(places: &[T]) -> &[T] {
 }
 
 impl Memory {
-    pub fn of(alloc: Global, session: &Session) -> Result<Self, AllocError> {
+    pub(crate) fn of(alloc: Global, session: &Session) -> Result<Self, AllocError> {
         let lengths = session.lengths;
         let calls = session.calls.len() / 6;
         Ok(Memory {
@@ -60,7 +60,7 @@ impl Memory {
     }
 
     // The session's calls, and what its start answers.
-    pub fn run(&mut self, session: &Session) -> Result<(), Refusal> {
+    pub(crate) fn run(&mut self, session: &Session) -> Result<(), Refusal> {
         replay::session(
             session.colors,
             session.worker,
@@ -81,7 +81,7 @@ impl Memory {
     }
 
     // What was answered, and what the output and the buffers hold.
-    pub fn print(&self, start: Result<(), Refusal>, out: &mut impl Write) -> io::Result<()> {
+    pub(crate) fn print(&self, start: Result<(), Refusal>, out: &mut impl Write) -> io::Result<()> {
         writeln!(out, "start {}", code_of(&start))?;
         for (refusal, answer) in self.refusals.iter().zip(&self.answers) {
             writeln!(out, "{refusal} {answer}")?;

@@ -22,7 +22,7 @@ pub(crate) struct Head {
 
 impl Head {
     // The words of the first line, up to one that can't be read, or the eighth.
-    pub fn read(&mut self, lines: &[&[u8]]) {
+    pub(crate) fn read(&mut self, lines: &[&[u8]]) {
         let line = lines.first().copied().unwrap_or(b"");
         let _ = Words::of(line).values(&mut self.numbers);
     }
@@ -56,7 +56,7 @@ where
 }
 
 impl Session {
-    pub fn of(alloc: Global, head: &Head, lines: &[&[u8]]) -> Result<Self, AllocError> {
+    pub(crate) fn of(alloc: Global, head: &Head, lines: &[&[u8]]) -> Result<Self, AllocError> {
         let [colors, worker, records, index, opened, held, runs, table] = head.numbers;
         Ok(Session {
             colors,

@@ -13,6 +13,7 @@ pub mod Flats
 pub mod Rep
 pub mod Gates
 pub mod Agree
+pub mod Names
 pub mod Unitigs
 pub mod Table
 pub mod After
@@ -28,7 +29,9 @@ pub mod Lines
 pub mod Demand
 pub mod Proved
 pub mod History
+pub mod Next
 pub mod WhileOpen
+pub mod Twelve
 pub mod Empty
 -- Worked cases, computed.
 pub mod Cases

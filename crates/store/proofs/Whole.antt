@@ -9,7 +9,8 @@ use Rattle.store.specs.WhileOpen.{NeverTwelveStatement, WhileOpenStatement}
 use Rattle.store.proofs.Laws.Empty.{empty_set_lem}
 use Rattle.store.proofs.Laws.History.{stores_one_history}
 use Rattle.store.proofs.Laws.Proved.{demand_3, once_each}
-use Rattle.store.proofs.Laws.WhileOpen.{never_12, while_open_lem}
+use Rattle.store.proofs.Laws.Twelve.{never_12}
+use Rattle.store.proofs.Laws.WhileOpen.{while_open_lem}
 use Rattle.store.proofs.state.Store.start.Statement as start-s
 use Rattle.store.proofs.state.Store.start.Met as start-m
 use Rattle.store.proofs.state.Store.add.Statement as add-s

@@ -27,8 +27,8 @@ open_coords none = []
 open_coords (some u) = u.coords
 
 -- each of these coordinates names a set on file; and the set that one names
-abbrev pub name_filed : PlainCell → List ℕ → Bool
-name_filed c coords = name_sets c.W (length c.S) coords
+abbrev pub on_file : PlainCell → List ℕ → Bool
+on_file c coords = name_sets c.W (length c.S) coords
 
 abbrev pub set_named : PlainCell → ℕ → List ℕ
 set_named c coord = get_or c.S (coord / 256) []
@@ -51,8 +51,8 @@ add_reply p ids =
     answer (next_coord p.cell)
 
 -- a call with the next number
-abbrev pub next : Plain → Update → LentCall
-next p u = updating (p.cell.last + 1) u
+abbrev pub next_call : Plain → Update → LentCall
+next_call p u = updating (p.cell.last + 1) u
 
 -- an open unitig in state and buffers: its count, its runs and how many are used, the held piece likewise; and all that is closed
 abbrev pub Unitigs : Type 0
@@ -66,32 +66,32 @@ pub record FiledBetween (ids : List ℕ) (p : Plain) (s : Store) (b : Bufs) (p' 
   -- "the set is filed immediately"
   pub file : record_file s'.cell b'.cell ≡ record_file s.cell b.cell ++ record_of p.N ids
   -- "joins that come later may name the new coordinate": it names a set on file, this one; and each older one names its own set
-  pub new_named : name_filed p'.cell (next_coord p.cell ∷ []) ≡ true
+  pub new_named : on_file p'.cell (next_coord p.cell ∷ []) ≡ true
   pub new_set : set_named p'.cell (next_coord p.cell) ≡ ids
-  pub old_sets : (coord : ℕ) → name_filed p.cell (coord ∷ []) ≡ true → set_named p'.cell coord ≡ set_named p.cell coord
+  pub old_sets : (coord : ℕ) → on_file p.cell (coord ∷ []) ≡ true → set_named p'.cell coord ≡ set_named p.cell coord
   -- a piece that could be joined before the add can be joined after it, with the same answer
   pub joins :
-      (n : ℕ) (reversed : Bool) (piece : List ℕ) (count : ℕ) → (store_step s b (next p (join n reversed piece))).0 ≡ seen (done (count ∷ [])) []
-      → (store_step s' b' (next p' (join n reversed piece))).0 ≡ seen (done (count ∷ [])) []
+      (n : ℕ) (reversed : Bool) (piece : List ℕ) (count : ℕ) → (store_step s b (next_call p (join n reversed piece))).0 ≡ seen (done (count ∷ [])) []
+      → (store_step s' b' (next_call p' (join n reversed piece))).0 ≡ seen (done (count ∷ [])) []
   -- the last call is the add: sent again it has the same answer, and whatever bears the number before it is out of sequence
-  pub again : (store_step s' b' (next p (add ids))).0 ≡ (store_step s b (next p (add ids))).0
+  pub again : (store_step s' b' (next_call p (add ids))).0 ≡ (store_step s b (next_call p (add ids))).0
   pub overtaken : (u : Update) → (store_step s' b' (updating p.cell.last u)).0 ≡ seen (refused 10) []
 
 -- of the store, its buffers and the plain store after a list of calls
 pub record WhileOpen (p : Plain) (s : Store) (b : Bufs) : Type 0 where
   -- what an open unitig names stays named, however many sets are filed while it is open
-  pub named : name_filed p.cell (open_coords p.cell.current) ≡ true
+  pub named : on_file p.cell (open_coords p.cell.current) ≡ true
   -- a join is never told 9 where its piece names sets on file, whenever they were filed
   pub may_name :
-      (n : ℕ) (reversed : Bool) (piece : List ℕ) → name_filed p.cell (map coordinate piece) ≡ true
-      → (store_step s b (next p (join n reversed piece))).0.answer ≡ refused 9 → ⊥
+      (n : ℕ) (reversed : Bool) (piece : List ℕ) → on_file p.cell (map coordinate piece) ≡ true
+      → (store_step s b (next_call p (join n reversed piece))).0.answer ≡ refused 9 → ⊥
   -- "Add is allowed then"
-  pub added : (ids : List ℕ) → (store_step s b (next p (add ids))).0 ≡ as_seen (add_reply p ids) []
+  pub added : (ids : List ℕ) → (store_step s b (next_call p (add ids))).0 ≡ as_seen (add_reply p ids) []
   -- "the open unitig is untouched", and so are the closed ones, by any add
   pub untouched : (i : ℕ) (ids : List ℕ) → unitigs_in (store_step s b (updating i (add ids))).1 (store_step s b (updating i (add ids))).2 ≡ unitigs_in s b
   pub filed :
       (ids : List ℕ) → is_set p.N ids ≡ true → no_space_for p ids ≡ false
-      → FiledBetween ids p s b (plain_step p (sent (next p (add ids)))).1 (store_step s b (next p (add ids))).1 (store_step s b (next p (add ids))).2
+      → FiledBetween ids p s b (plain_step p (sent (next_call p (add ids)))).1 (store_step s b (next_call p (add ids))).1 (store_step s b (next_call p (add ids))).2
 
 -- by what a list of calls leaves: the plain store after it, the store and its buffers
 abbrev pub WhileOpenAfter : (N W : ℕ) → Bufs → List LentCall → List Seen × Store × Bufs → Type 0

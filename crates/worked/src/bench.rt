@@ -21,7 +21,7 @@ pub(crate) struct Bench {
 }
 
 impl Bench {
-    pub fn new(alloc: Global) -> Result<Self, AllocError> {
+    pub(crate) fn new(alloc: Global) -> Result<Self, AllocError> {
         Ok(Bench {
             alloc,
             state: State::none(alloc)?,
@@ -30,7 +30,7 @@ impl Bench {
         })
     }
 
-    pub fn step(&mut self, step: &[u8]) -> Result<(), AllocError> {
+    pub(crate) fn step(&mut self, step: &[u8]) -> Result<(), AllocError> {
         self.reply = match self.answer(step) {
             Ok(reply) => reply,
             Err(StepError::Words(_)) => Reply::NoStep,

@@ -18,37 +18,42 @@ pub(crate) struct Buffer<T> {
 }
 
 impl<T: Copy + PartialEq + From<u8>> Buffer<T> {
-    pub fn filled(alloc: Global, count: usize, fill: u8, lent: usize) -> Result<Self, AllocError> {
+    pub(crate) fn filled(
+        alloc: Global,
+        count: usize,
+        fill: u8,
+        lent: usize,
+    ) -> Result<Self, AllocError> {
         let fill = T::from(fill);
         let mut places = Vec::new(alloc);
         places.resize(count, fill)?;
         Ok(Buffer { places, lent, fill })
     }
 
-    pub fn front(&self) -> &[T] {
+    pub(crate) fn front(&self) -> &[T] {
         front(&self.places, self.lent)
     }
 
-    pub fn front_mut(&mut self) -> &mut [T] {
+    pub(crate) fn front_mut(&mut self) -> &mut [T] {
         split_front(&mut self.places, self.lent).0
     }
 
     // Writes one place, where the buffer has it.
-    pub fn put(&mut self, place: usize, value: T) {
+    pub(crate) fn put(&mut self, place: usize, value: T) {
         if let Some(to) = self.places.get_mut(place) {
             *to = value;
         }
     }
 
     // The first `count` places; those behind them are let go.
-    pub fn into_front(self, count: usize) -> Vec<T> {
+    pub(crate) fn into_front(self, count: usize) -> Vec<T> {
         let mut places = self.places;
         places.truncate(count);
         places
     }
 
     // Whether each place from `start` on is as it was at first.
-    pub fn is_fresh_from(&self, start: usize) -> bool {
+    pub(crate) fn is_fresh_from(&self, start: usize) -> bool {
         self.places
             .iter()
             .skip(start)
@@ -69,7 +74,7 @@ pub(crate) struct Buffers {
 
 impl Buffers {
     // With 9 at each place, and so much of each lent.
-    pub fn of(alloc: Global, lent: Lengths) -> Result<Self, AllocError> {
+    pub(crate) fn of(alloc: Global, lent: Lengths) -> Result<Self, AllocError> {
         Ok(Buffers {
             records: Buffer::filled(alloc, BYTES, 9, lent.records)?,
             index: Buffer::filled(alloc, WORDS, 9, lent.index)?,

@@ -15,7 +15,7 @@ pub(crate) struct State {
 
 impl State {
     // No store, and nothing lent.
-    pub fn none(alloc: Global) -> Result<Self, AllocError> {
+    pub(crate) fn none(alloc: Global) -> Result<Self, AllocError> {
         Ok(State {
             store: Store::default(),
             buffers: Buffers::of(alloc, Lengths::default())?,
@@ -23,7 +23,7 @@ impl State {
     }
 
     // A fresh store. It may alter index entry 0 alone, and nothing where it is refused.
-    pub fn start(
+    pub(crate) fn start(
         &mut self,
         alloc: Global,
         colors: u32,
@@ -78,7 +78,7 @@ impl State {
         })
     }
 
-    pub fn add(&mut self, number: u32, ids: &[u32]) -> Result<Reply, AllocError> {
+    pub(crate) fn add(&mut self, number: u32, ids: &[u32]) -> Result<Reply, AllocError> {
         self.call(|store, b| {
             store.add(
                 number,
@@ -93,7 +93,7 @@ impl State {
         })
     }
 
-    pub fn join(
+    pub(crate) fn join(
         &mut self,
         number: u32,
         n: u32,
@@ -116,7 +116,7 @@ impl State {
         })
     }
 
-    pub fn close(&mut self, number: u32, way: Way) -> Result<Reply, AllocError> {
+    pub(crate) fn close(&mut self, number: u32, way: Way) -> Result<Reply, AllocError> {
         self.call(|store, b| {
             store.close(
                 number,
@@ -132,7 +132,7 @@ impl State {
     }
 
     // Into an output of so many places.
-    pub fn show(
+    pub(crate) fn show(
         &mut self,
         alloc: Global,
         unitig: u32,

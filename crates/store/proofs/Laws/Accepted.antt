@@ -14,14 +14,12 @@ use Rattle.runs.specs.Words.{coordinate_of}
 use Rattle.store.specs.Demand.{LentCall, accepted_from, all_seen, as_seen, if_accepted, out_of, sent, set_for, sets_in, showing, updating}
 use Rattle.store.specs.Once.{Item, show_call, item_call, numbered_call, update_of, updates_from}
 use Rattle.store.specs.Plain.{Plain, SharedLengths, Unitig, Update, Verdict, Way, accept, accepted, add, add_tests, again, close, close_effect, close_tests, effect, join, join_tests, plain_run, plain_step, plain_update, refuse, repeat, tests, verdict}
-use Rattle.store.proofs.Laws.Gates.{verdict_accept}
+use Rattle.store.proofs.Laws.Gates.{found_later, verdict_accept}
 
 -- ---- a repeated answer comes of the last number alone
 
 refuse_repeat : (n a : ℕ) (t : Bool) (v : Verdict) → ◌when◌else◌ (refuse n) t v ≡ repeat a → v ≡ repeat a
-unfolding ◌when◌else◌
-refuse_repeat n a true v e = let z : ◌≡◌ {A = ℕ} 0 1 = cc in absurd (omega arith)
-refuse_repeat n a false v e = e
+refuse_repeat n a t v e = (found_later t (λ z. let x : ◌≡◌ {A = ℕ} 0 1 = cc in omega arith) e).1
 
 accept_repeat : (a : ℕ) → accept ≡ repeat a → ⊥
 accept_repeat a e = let z : ◌≡◌ {A = ℕ} 0 1 = cc in omega arith

@@ -27,11 +27,12 @@ use Rattle.store.proofs.Laws.After.{cell_after, size_kept}
 use Rattle.store.proofs.Laws.Agree.{set_within}
 use Rattle.store.proofs.Laws.Flats.{flat_more, starts_more}
 use Rattle.store.proofs.Laws.Gates.{as_verdict, refuse_accept, refuse_both}
+use Rattle.store.proofs.Laws.Names.{named_more}
 use Rattle.store.proofs.Laws.Puts.{put_length, put_take}
 use Rattle.store.proofs.Laws.Rep.{CellRep, Filed, OpenRep, Rep, added}
 use Rattle.store.proofs.Laws.Rep as rep
 use Rattle.store.proofs.Laws.Table.{shared_more}
-use Rattle.store.proofs.Laws.Unitigs.{good_more, named_more}
+use Rattle.store.proofs.Laws.Unitigs.{good_more}
 
 -- ---- one record more
 

@@ -55,11 +55,15 @@ refuse_both r {t} {u} g v q e = rw q (go u e)
     go true e = refl
     go false e = e refl
 
+-- what is found, where it isn't what this test would have found: the test fails, and the later ones found it
+pub found_later : (t : Bool) {r v w : Verdict} → (r ≡ w → ⊥) → ◌when◌else◌ r t v ≡ w → (t ≡ false) × (v ≡ w)
+unfolding ◌when◌else◌
+found_later true h e = absurd (h e)
+found_later false h e = (refl, e)
+
 -- accepted: no test before held
 pub refuse_accept : (r : ℕ) (t : Bool) (v : Verdict) → ◌when◌else◌ (refuse r) t v ≡ accept → (t ≡ false) × (v ≡ accept)
-unfolding ◌when◌else◌
-refuse_accept r true v e = let z : ◌≡◌ {A = ℕ} 0 1 = cc in absurd (omega arith)
-refuse_accept r false v e = (refl, e)
+refuse_accept r t v e = found_later t (λ z. let x : ◌≡◌ {A = ℕ} 0 1 = cc in omega arith) e
 
 -- what is accepted stays accepted where less is turned down
 pub refuse_less : (r : ℕ) {t u : Bool} {v w : Verdict} → (t ≡ false → u ≡ false) → (v ≡ accept → w ≡ accept) → ◌when◌else◌ (refuse r) t v ≡ accept → ◌when◌else◌ (refuse r) u w ≡ accept
@@ -105,17 +109,12 @@ again_not (some (last, a)) u e = go (equal_updates last u) e
     go true e = let z : ◌≡◌ {A = ℕ} 0 1 = cc in omega arith
     go false e = let z : ◌≡◌ {A = ℕ} 0 1 = cc in omega arith
 
-in_turn : (b : Bool) (r t : Verdict) → (r ≡ accept → ⊥) → ◌when◌else◌ r b t ≡ accept → (b ≡ false) × (t ≡ accept)
-unfolding ◌when◌else◌
-in_turn true r t h e = absurd (h e)
-in_turn false r t h e = (refl, e)
-
 -- an accepted call has the next number and passes every test of its own
 pub verdict_accept : (p : Plain) (i : ℕ) (u : Update) → verdict p i u ≡ accept → (i ≡ p.cell.last + 1) × (tests p u ≡ accept)
 unfolding verdict
 verdict_accept p i u e =
     let a = refuse_accept 10 _ _ e in
-    let b = in_turn (eqb i p.cell.last) _ _ (again_not p.cell.call u) a.1 in
+    let b = found_later (eqb i p.cell.last) (again_not p.cell.call u) a.1 in
     let n : not (eqb i p.cell.last || eqb i (p.cell.last + 1)) ≡ false = (or_none (eqb i 0) _ a.0).1 in
     let m : not (false || eqb i (p.cell.last + 1)) ≡ false = rw b.0 at n in
     (eqb-true _ _ (not-false _ m), b.1)

@@ -29,6 +29,7 @@ use Rattle.runs.proofs.Laws.Starts.{starts_joined, starts_reversed}
 use Rattle.runs.proofs.Laws.Widths.{Narrow, coloured_words}
 use Rattle.store.specs.Join.{all_named}
 use Rattle.store.specs.Plain.{Unitig, bytes_of, cycle, differs, expanded, filed, inner_starts, joined, piece_of, turned_round}
+use Rattle.store.proofs.Laws.Names.{named_one}
 use Rattle.store.proofs.Laws.Rep.{Good, Named, unitig_runs}
 
 -- ---- what its runs say of a unitig
@@ -63,10 +64,7 @@ read_of {names} slim u g rest =
     let few : length (unitig_runs u) ≤ n = omega (arith, strict_few n (unitig_runs u) (sharp_yes n (unitig_runs u) g.is_sharp).up) in
     read_back (unitig_runs u) rest (omega (arith, g.few)) (coloured_words n (unitig_runs u) g.is_sharp (rw g.tell narrow))
 
--- what is named stays named when there are more sets: a coordinate, and all that a unitig names
-pub named_more : {W k m : ℕ} → k ≤ m → (c : ℕ) → Named W k c → Named W m c
-named_more h c a = record { own = a.own; low = omega (arith, a.low) }
-
+-- what is named stays named
 pub good_more : {P Q : ℕ → Type 0} {u : Unitig} → ((c : ℕ) → P c → Q c) → Good P u → Good Q u
 good_more {P} {Q} {u} h g =
     record {
@@ -133,8 +131,7 @@ unfolding all_named colours
 named_colours W k n [] e = tt
 named_colours W k n (w ∷ ws) e =
     let a = and_true _ _ e in
-    let b = and_true _ _ a.0 in
-    let here : Named W k (coordinate w) = record { own = eqb-true _ _ b.0; low = ltb-true _ _ b.1 } in
+    let here : Named W k (coordinate w) = named_one W k (coordinate w) a.0 in
     all_append (Named W k) (replicate (next n ws - offset w) (coordinate w)) (colours n ws) (all_replicate (Named W k) (next n ws - offset w) (coordinate w) here) (named_colours W k n ws a.1)
 
 -- ---- a piece

@@ -20,7 +20,7 @@ pub overflow_add-at : goal.overflow_add-at
 overflow_add-at c = omega (arith, step_start_lem _ _ c.requires _ _ (said c))
 
 pub payload_end-requires : goal.payload_end-requires
-payload_end-requires c = step_start_lem _ _ c.requires _ _ (said c)
+payload_end-requires c = omega (arith, step_start_lem _ _ c.requires _ _ (said c))
 
 pub returns : goal.returns
 returns c = step_by _ _ c.requires _ _ (said (goal.at.returns c).In_ok-value) _ c.payload_end.ensures.whole c.payload_end.ensures.cut
