@@ -4,7 +4,7 @@ use mathlib.Core.Path.{◌≡◌}
 use native.Mathlib.Omega.{arith}
 use Rattle.base.specs.Answers.{number_of}
 use Rattle.base.specs.declared.Refusal.{Refusal}
-use Rattle.base.specs.declared.Refusal.TheVariants.{Colors, Ids, Space, Cut, Damaged, Runs, Vertices, Junction, Coordinate, Number, Arguments, Unopened, Place, Altered}
+use Rattle.base.specs.declared.Refusal.TheVariants.{Colors, Ids, Space, Cut, Damaged, Runs, Vertices, Junction, Coordinate, Number, Arguments, Unopened, Place, Altered, Acyclic}
 
 -- none has 12
 pub no_12 : (r : Refusal) → number_of r ≡ 12 → ⊥
@@ -22,3 +22,4 @@ no_12 Arguments e = omega arith
 no_12 Unopened e = omega arith
 no_12 Place e = omega arith
 no_12 Altered e = omega arith
+no_12 Acyclic e = omega arith

@@ -13,6 +13,7 @@ pub mod Append
 pub mod Fill
 pub mod Joints
 pub mod Starts
+pub mod Shorter
 pub mod Bytes
 pub mod Widths
 pub mod Claims

@@ -20,6 +20,7 @@ reason_of refusal.Arguments = codes "11 last number with another call or other a
 reason_of refusal.Unopened = codes "13 no unitig is open"
 reason_of refusal.Place = codes "14 no such closed unitig or vertex"
 reason_of refusal.Altered = codes "15 state or buffers were altered"
+reason_of refusal.Acyclic = codes "16 open unitig does not walk back to its first vertex"
 
 abbrev pub fault_of : Fault → List ℕ
 fault_of fault.Unknown = codes "unknown command (try help)"

@@ -64,6 +64,7 @@ fn reason(r: Refusal) -> &'static [u8]
         Refusal::Unopened => b"13 no unitig is open",
         Refusal::Place => b"14 no such closed unitig or vertex",
         Refusal::Altered => b"15 state or buffers were altered",
+        Refusal::Acyclic => b"16 open unitig does not walk back to its first vertex",
     }
 }
 

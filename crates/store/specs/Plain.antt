@@ -1,5 +1,5 @@
--- Section 7 of 01, with requests F-1 and F-2: the plain store. It shares no test with the store over its buffers.
-use Rattle.std.specs.Prelude.{ℕ, zero, suc, ◌+◌, ◌-◌, ◌*◌, ◌/◌, ◌%◌, Bool, true, false, not, ◌||◌, ◌&&◌, List, [], ◌∷◌, ◌++◌, map, reverse, length, get_or, drop, ltb, leb, eqb}
+-- Section 7 of 01, with requests F-1, F-2 and F-5: the plain store. It shares no test with the store over its buffers.
+use Rattle.std.specs.Prelude.{ℕ, zero, suc, ◌+◌, ◌-◌, ◌*◌, ◌/◌, ◌%◌, Bool, true, false, not, ◌||◌, ◌&&◌, List, [], ◌∷◌, ◌++◌, filter, map, reverse, length, get_or, take, drop, ltb, leb, eqb}
 use Rattle.std.proofs.Math.Option.{Option, none, some}
 use Rattle.base.specs.Tests.{◌when◌else◌}
 use Rattle.codec.specs.Flat.{flat}
@@ -153,14 +153,31 @@ differs (some u) piece = not (eqb (get_or u.coords (length u.coords - 1) 0) (get
 
 -- ---- close
 
+-- without the last vertex, and without a run that this leaves without a vertex (request F-5)
+unfoldable pub without_last : Unitig → Unitig
+without_last u =
+    record {
+      coords = take (length u.coords - 1) u.coords;
+      starts = filter (λ (s : ℕ). ltb s (length u.coords - 1)) u.starts;
+    }
+
 -- a cycle is turned left by pivot mod n and its starts become 0 and each vertex unlike the one before
-unfoldable pub filed : Way → Unitig → Unitig
-filed line u = u
-filed (cycle pivot) u =
+unfoldable pub turned_by : ℕ → Unitig → Unitig
+turned_by pivot u =
     record {
       coords = turn_left (pivot % length u.coords) u.coords;
       starts = firsts (turn_left (pivot % length u.coords) u.coords);
     }
+
+-- a cycle, which walks back to its first vertex, drops the last one before it is turned: n is then the smaller count (request F-5)
+unfoldable pub filed : Way → Unitig → Unitig
+filed line u = u
+filed (cycle pivot) u = turned_by pivot (without_last u)
+
+-- fewer than two vertices, or first and last coordinates differ: of a cycle only (request F-5)
+unfoldable pub acyclic : Way → Unitig → Bool
+acyclic line u = false
+acyclic (cycle pivot) u = ltb (length u.coords) 2 || not (eqb (get_or u.coords 0 0) (get_or u.coords (length u.coords - 1) 0))
 
 -- the run bytes of a unitig, and of closed unitigs in order
 unfoldable pub bytes_of : Unitig → List ℕ
@@ -203,6 +220,8 @@ unfoldable pub close_tests : List Unitig → SharedLengths → Way → Option Un
 -- 13, none open
 close_tests closed l way none = refuse 13
 close_tests closed l way (some u) =
+    -- 16, a cycle that doesn't walk back to its first vertex
+    refuse 16 when acyclic way u else
     -- 3, its run bytes or its two table numbers don't fit
     refuse 3 when ltb l.runs (length (closed_bytes closed) + length (bytes_of (filed way u))) || ltb l.table (2 * length closed + 2) else
     accept

@@ -89,6 +89,20 @@ yes_sharp n (w ∷ ws) s = and_both _ _ (eq-eqb (offset w) 0 s.first) (up_strict
     above : offset w ≡ 0 → offset w < next n ws → 0 < next n ws
     above z h = omega arith
 
+pub climbs_below : (n at : ℕ) (ws : List ℕ) → climbs n at ws ≡ true → at < n
+unfolding climbs
+climbs_below n at [] e = ltb-true at n e
+climbs_below n at (w ∷ ws) e =
+    let a = and_true _ _ e in
+    let h : at < offset w = ltb-true at (offset w) a.0 in
+    omega (arith, climbs_below n (offset w) ws a.1)
+
+-- a sharp list is one of some vertices
+pub sharp_vertices : (n : ℕ) (ws : List ℕ) → sharp n ws ≡ true → 0 < n
+unfolding sharp
+sharp_vertices n [] e = false_true e
+sharp_vertices n (w ∷ ws) e = climbs_below n 0 ws (and_true _ _ e).1
+
 pub strict_le : (n : ℕ) (ws : List ℕ) → StrictUp n ws → Up n ws
 strict_le n ws u i l = le (u i l)
   where

@@ -1,5 +1,5 @@
--- Steady and sharp lists, run by run.
-use Rattle.std.specs.Prelude.{ℕ, ◌≤◌, ◌<◌, ◌≡◌, List, length, get_or}
+-- Steady and sharp lists, run by run, and a list cut to fewer vertices.
+use Rattle.std.specs.Prelude.{ℕ, ◌≤◌, ◌<◌, ◌≡◌, List, filter, length, get_or, ltb}
 use Rattle.runs.specs.Words.{offset}
 use Rattle.runs.specs.Colours.{end_at}
 
@@ -17,3 +17,7 @@ pub record Sharp (n : ℕ) (ws : List ℕ) : Type 0 where
 pub record Taken (n : ℕ) (ws : List ℕ) : Type 0 where
   pub small : n < 16777216
   pub list : Steady n ws
+
+-- the list of the first n vertices: without a run that has none of them
+unfoldable pub cut_to : ℕ → List ℕ → List ℕ
+cut_to n ws = filter (λ (w : ℕ). ltb (offset w) n) ws

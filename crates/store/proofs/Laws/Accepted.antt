@@ -27,7 +27,7 @@ accept_repeat a e = let z : ◌≡◌ {A = ℕ} 0 1 = cc in omega arith
 close_not_repeat : (closed : List Unitig) (l : SharedLengths) (way : Way) (c : Option Unitig) (a : ℕ) → close_tests closed l way c ≡ repeat a → ⊥
 unfolding close_tests
 close_not_repeat closed l way none a e = let z : ◌≡◌ {A = ℕ} 0 1 = cc in omega arith
-close_not_repeat closed l way (some u) a e = accept_repeat a (refuse_repeat _ a _ _ e)
+close_not_repeat closed l way (some u) a e = accept_repeat a (refuse_repeat _ a _ _ (refuse_repeat _ a _ _ e))
 
 pub tests_not_repeat : (p : Plain) (u : Update) (a : ℕ) → tests p u ≡ repeat a → ⊥
 unfolding tests add_tests join_tests

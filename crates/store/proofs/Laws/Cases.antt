@@ -1,6 +1,6 @@
 -- Worked cases with the answers that the specification gives: its own store case; for each two refusals that stand side by side, a call for which both
 -- conditions hold; and what only an altered state or altered buffers cause. Computed of the definitions.
-use Prim.Native.Nat.{ℕ}
+use Prim.Native.Nat.{ℕ, ◌+◌}
 use mathlib.Core.Path.{◌≡◌, refl}
 use mathlib.Core.Bool.{Bool, true, false}
 use mathlib.Core.List.{List, [], ◌∷◌, ◌++◌, map}
@@ -24,12 +24,12 @@ use Rattle.runs.specs.Rotate.{changes, firsts, runs_at, merged, rotate_runs}
 use Rattle.runs.specs.Words.{pack}
 use Rattle.store.specs.Add.{no_space, add_test, same_add, add_filed, add_cell, add_step}
 use Rattle.store.specs.Altered.{altered_buffer, bad_vertices, bad_current, altered_cell, altered_shared, altered}
-use Rattle.store.specs.Close.{same_way, same_close, filed_runs, filed_bytes, count_of, close_open, no_close_space, close_test, close_filed_of, close_cell, close_step}
+use Rattle.store.specs.Close.{same_way, same_close, filed_count, filed_runs, filed_bytes, count_of, acyclic_runs, close_open, no_close_space, close_test, close_filed_of, close_cell, close_step}
 use Rattle.store.specs.Demand.{LentCall, updating, showing, Seen, seen, sent, out_of, as_seen, all_seen, way_of, store_update, store_step, store_run}
 use Rattle.store.specs.Filed.{unnamed, record_start, set_in, set_from, set_at, reads_as}
 use Rattle.store.specs.Join.{alike, same_join, open_count, open_at, open_new, all_named, open_test, open_space, join_test, join_filed_at, join_cell, join_step}
 use Rattle.store.specs.Numbered.{sequence_of, repeated, tested, by_sequence, numbered, by_gate}
-use Rattle.store.specs.Plain.{Way, line, cycle, add, join, close, plain_fresh, is_empty, ascends_from, ascends, all_below, is_set, are_sharp, name_sets, equal, inner_starts, expanded, turned_round, piece_of, joined, new_count, differs, filed, bytes_of, add_tests, join_tests, close_tests, tests, equal_ways, both_or_neither, equal_updates, again, verdict, close_effect, effect, accepted, plain_update, coord_at, ids_at, no_vertex, plain_show, plain_step, plain_run}
+use Rattle.store.specs.Plain.{Way, line, cycle, add, join, close, plain_fresh, is_empty, ascends_from, ascends, all_below, is_set, are_sharp, name_sets, equal, inner_starts, expanded, turned_round, piece_of, joined, new_count, differs, without_last, turned_by, filed, acyclic, bytes_of, add_tests, join_tests, close_tests, tests, equal_ways, both_or_neither, equal_updates, again, verdict, close_effect, effect, accepted, plain_update, coord_at, ids_at, no_vertex, plain_show, plain_step, plain_run}
 use Rattle.store.specs.Show.{no_place, coord_from, set_by, vertex_set, shown_by, show_step}
 use Rattle.store.specs.Start.{bad_limits, too_long, bad_cell_lengths, bad_shared_lengths, bad_lengths, fresh_cell, fresh_shared, fresh, start_step}
 use Rattle.store.specs.State.{Bufs, bufs, lengths_of, extent, put, after, with_unitig, with_parts}
@@ -232,11 +232,64 @@ left_open =
     bufs (0x02 ∷ 0x62 ∷ 0x01 ∷ 0x02 ∷ 0x1A ∷ 0x08 ∷ []) (0 ∷ 3 ∷ 6 ∷ []) (pack 0 2 ∷ pack 3 258 ∷ []) turned
     (2 ∷ 0 ∷ 0 ∷ 0 ∷ 2 ∷ 0 ∷ 0 ∷ 0 ∷ 0 ∷ 3 ∷ 0 ∷ 0 ∷ 2 ∷ 1 ∷ 0 ∷ 0 ∷ 0 ∷ []) (0 ∷ 4 ∷ [])
 
+-- ---- a cycle, which walks back to its first vertex
+
+abbrev shows_5 : ℕ → LentCall × Seen
+shows_5 v = (showing 0 v (8 ∷ 8 ∷ []), shows 1 (5 ∷ 8 ∷ []))
+
+abbrev shows_07 : ℕ → LentCall × Seen
+shows_07 v = (showing 0 v (8 ∷ 8 ∷ []), shows 2 (0 ∷ 7 ∷ []))
+
+-- the walk (0,2)(2,258)(4,2) of five vertices, sent in two pieces and closed with this pivot; a run file just long enough, and what its four vertices show
+abbrev round : (runs pivot : ℕ) → List (LentCall × Seen) → Case
+round runs pivot shown =
+    over_room (room 6 3 3 2 runs 2)
+    (
+    (adds 1 (5 ∷ []), told 2)
+    ∷ (adds 2 (0 ∷ 7 ∷ []), told 258)
+    ∷ (joins 3 4 false piece, told 4)
+    ∷ (joins 4 2 true turned, told 5)
+    ∷ (closes 5 (cycle pivot), told 0)
+    ∷ (closes 5 (cycle pivot), told 0)
+    -- another pivot is another call, also where it turns alike
+    ∷ (closes 5 (cycle (pivot + 4)), refused 11)
+    ∷ (closes 5 (cycle (pivot + 5)), refused 11)
+    ∷ (closes 5 line, refused 11)
+    ∷ (showing 0 4 [], unshown 14 [])
+    ∷ shown
+    )
+
+-- as it stands: the run of the last vertex is gone, and with it the third place for runs
+abbrev round_0 : List (LentCall × Seen)
+round_0 = shows_5 0 ∷ shows_5 1 ∷ shows_07 2 ∷ shows_07 3 ∷ []
+
+-- from the second vertex on
+abbrev round_1 : List (LentCall × Seen)
+round_1 = shows_5 0 ∷ shows_07 1 ∷ shows_07 2 ∷ shows_5 3 ∷ []
+
+-- the open runs; the piece as sent; the runs (0,2)(2,258), or (0,2)(1,258)(3,2), as bytes; four vertices in the table
+abbrev left_round : (runs : List ℕ) → Bufs
+left_round runs =
+    bufs (0x02 ∷ 0x62 ∷ 0x01 ∷ 0x02 ∷ 0x1A ∷ 0x08 ∷ []) (0 ∷ 3 ∷ 6 ∷ []) (pack 0 2 ∷ pack 2 258 ∷ pack 4 2 ∷ []) turned runs (0 ∷ 4 ∷ [])
+
+abbrev left_round_0 : Bufs
+left_round_0 = left_round (2 ∷ 0 ∷ 0 ∷ 0 ∷ 2 ∷ 0 ∷ 0 ∷ 0 ∷ 0 ∷ 2 ∷ 0 ∷ 0 ∷ 2 ∷ 1 ∷ 0 ∷ 0 ∷ 0 ∷ [])
+
+abbrev left_round_1 : Bufs
+left_round_1 = left_round (3 ∷ 0 ∷ 0 ∷ 0 ∷ 2 ∷ 0 ∷ 0 ∷ 0 ∷ 0 ∷ 1 ∷ 0 ∷ 0 ∷ 2 ∷ 1 ∷ 0 ∷ 0 ∷ 0 ∷ 3 ∷ 0 ∷ 0 ∷ 2 ∷ 0 ∷ 0 ∷ 0 ∷ 0 ∷ [])
+
 -- ---- two refusals at once: the one that stands first is answered
 
 -- two sets, then an open unitig of two vertices with one run; no more open runs or held runs fit, and no unitig
 abbrev opening : List (LentCall × Seen)
 opening = (adds 1 (5 ∷ []), told 2) ∷ (adds 2 (0 ∷ 7 ∷ []), told 258) ∷ (joins 3 2 false (pack 0 2 ∷ []), told 2) ∷ []
+
+-- an open unitig of one vertex; and one whose first and last coordinates differ
+abbrev alone : List (LentCall × Seen)
+alone = (adds 1 (5 ∷ []), told 2) ∷ (joins 2 1 false (pack 0 2 ∷ []), told 1) ∷ []
+
+abbrev apart : List (LentCall × Seen)
+apart = (adds 1 (5 ∷ []), told 2) ∷ (adds 2 (0 ∷ 7 ∷ []), told 258) ∷ (joins 3 3 false piece, told 3) ∷ []
 
 abbrev tight : Bufs
 tight = room 6 3 1 1 8 0
@@ -248,6 +301,10 @@ cases =
     ∷ empty_alone 1
     ∷ empty_twice
     ∷ while_open
+    ∷ round 17 0 round_0
+    ∷ round 25 1 round_1
+    ∷ round 17 4 round_0
+    ∷ round 25 5 round_1
     -- on a fresh store the number 0 is the last one too, and its call another: 10 before 11
     ∷ over_room tight ((adds 0 (5 ∷ []), refused 10) ∷ [])
     ∷ over_room tight ((joins 0 1 false (pack 0 2 ∷ []), refused 10) ∷ [])
@@ -278,8 +335,14 @@ cases =
     -- 3 by the run bytes alone, and by the table alone
     ∷ over_room (room 6 3 1 1 8 2) (opening ++ ((closes 4 line, refused 3) ∷ []))
     ∷ over_room (room 6 3 1 1 9 1) (opening ++ ((closes 4 (cycle 1), refused 3) ∷ []))
-    -- a cycle's pivot is compared as sent
-    ∷ over_room (room 6 3 1 1 9 2) (opening ++ ((closes 4 (cycle 1), told 0) ∷ (closes 4 (cycle 3), refused 11) ∷ (closes 4 (cycle 1), told 0) ∷ []))
+    -- a cycle of two vertices with one coordinate leaves one vertex; its pivot is compared as sent
+    ∷ over_room (room 6 3 1 1 9 2) (opening ++ ((closes 4 (cycle 1), told 0) ∷ (closes 4 (cycle 3), refused 11) ∷ (closes 4 (cycle 1), told 0) ∷ (showing 0 1 [], unshown 14 []) ∷ shows_5 0 ∷ []))
+    -- of a cycle 16 before 3, and of a line 3: one vertex; first and last coordinates that differ
+    ∷ over_room tight (alone ++ ((closes 3 (cycle 0), refused 16) ∷ (closes 3 line, refused 3) ∷ []))
+    ∷ over_room (room 6 3 2 2 8 0) (apart ++ ((closes 4 (cycle 0), refused 16) ∷ (closes 4 line, refused 3) ∷ []))
+    -- what is refused as a cycle is closed as a line; 11 and 13 before 16
+    ∷ over_room (room 6 3 1 1 9 2) (alone ++ ((closes 2 (cycle 0), refused 11) ∷ (closes 3 (cycle 0), refused 16) ∷ (closes 3 line, told 0) ∷ (closes 4 (cycle 0), refused 13) ∷ []))
+    ∷ over_room (room 6 3 2 2 17 2) (apart ++ ((closes 3 (cycle 0), refused 11) ∷ (closes 4 (cycle 0), refused 16) ∷ (closes 4 line, told 0) ∷ shows_07 2 ∷ []))
     -- show: 14 before 3
     ∷ over_room (room 6 3 1 1 9 2) (opening ++ ((showing 0 0 [], unshown 14 []) ∷ (closes 4 line, told 0) ∷ (showing 0 2 [], unshown 14 []) ∷ (showing 1 0 [], unshown 14 []) ∷ (showing 0 1 [], unshown 3 []) ∷ []))
     ∷ []
@@ -537,7 +600,10 @@ damages =
     ∷ at after_piece (opened 0 (pack 1 2)) (closes 4 line) (refused 5)
     ∷ at after_piece (opened 1 (pack 0 258)) (closes 4 (cycle 1)) (refused 5)
     ∷ at after_piece (opened 1 (pack 3 258)) (closes 4 (cycle 1)) (refused 5)
-    -- close: 11 before 5, 13 before 5, 5 before 3
+    -- close: 11 before 5, 13 before 5, 5 before 16, 16 before 3, 5 before 3
+    ∷ at after_piece (opened 0 (pack 1 2)) (closes 4 (cycle 0)) (refused 5)
+    ∷ at after_piece nothing (closes 4 (cycle 0)) (refused 16)
+    ∷ at (no_table after_piece) nothing (closes 4 (cycle 0)) (refused 16)
     ∷ at after_piece (opened 0 (pack 1 2)) (closes 3 line) (refused 11)
     ∷ at after_sets (cell (cell_uses 6 2 1 0)) (closes 3 line) (refused 13)
     ∷ at (no_table after_piece) (opened 0 (pack 1 2)) (closes 4 line) (refused 5)
@@ -609,6 +675,11 @@ pub record Cases : Type 0 where
   pub plain : map by_plain cases ≡ map told_by cases
   pub kept : left_over worked ≡ left
   pub open_kept : left_over while_open ≡ left_open
+  pub rounds_kept :
+      (left_over (round 17 0 round_0) ≡ left_round_0)
+      × (left_over (round 25 1 round_1) ≡ left_round_1)
+      × (left_over (round 17 4 round_0) ≡ left_round_0)
+      × (left_over (round 25 5 round_1) ≡ left_round_1)
   pub empty_kept :
       (left_over (empty_alone 8) ≡ left_alone)
       × (left_over (empty_alone 1) ≡ left_alone)
@@ -626,10 +697,10 @@ unfolding
     read_leb read_prefix map_bits ids_of absent gap_bits regime set_bits encode_set read_gaps read_map read_set padding decode_set within flat record_of read_record
     bad_colors same colours colour_from climbs sharp reverse_runs shifted skip appendix changes firsts runs_at merged rotate_runs le_bytes le_value run_bytes
     words after_count read_runs sharp_colour_in sharp_colour no_space add_test same_add add_filed add_cell add_step altered_buffer bad_vertices
-    bad_current altered_cell altered_shared altered same_way same_close filed_runs filed_bytes count_of close_open no_close_space close_test close_filed_of close_cell
+    bad_current altered_cell altered_shared altered same_way same_close filed_count filed_runs filed_bytes count_of acyclic_runs close_open no_close_space close_test close_filed_of close_cell
     close_step sent out_of as_seen all_seen way_of store_update store_step store_run unnamed record_start set_in set_from set_at reads_as alike same_join open_count
     open_at open_new all_named open_test open_space join_test join_filed_at join_cell join_step sequence_of repeated tested by_sequence numbered by_gate plain_fresh is_empty
-    ascends_from ascends all_below is_set are_sharp name_sets equal inner_starts expanded turned_round piece_of joined new_count differs filed bytes_of
+    ascends_from ascends all_below is_set are_sharp name_sets equal inner_starts expanded turned_round piece_of joined new_count differs without_last turned_by filed acyclic bytes_of
     add_tests join_tests close_tests tests equal_ways both_or_neither equal_updates again verdict close_effect effect accepted plain_update coord_at ids_at
     no_vertex plain_show plain_step plain_run no_place coord_from set_by vertex_set shown_by show_step bad_limits too_long bad_cell_lengths bad_shared_lengths
     bad_lengths fresh_cell fresh_shared fresh start_step put after with_unitig
@@ -639,6 +710,7 @@ computed =
       plain = refl;
       kept = refl;
       open_kept = refl;
+      rounds_kept = (refl, refl, refl, refl);
       empty_kept = (refl, refl, refl);
       started = refl;
       found = (refl, refl, refl);

@@ -1,7 +1,7 @@
 -- A close: its tests, and what ties the two stores after an accepted one.
 use Prim.Native.Nat.{ℕ, ◌+◌, ◌*◌, ◌%◌, ◌≤◌}
-use mathlib.Core.Path.{◌≡◌, refl, sym, ap, ◌∙◌}
-use mathlib.Core.Bool.{true, ◌||◌}
+use mathlib.Core.Path.{◌≡◌, refl, sym, ap, ◌∙◌, ap₂}
+use mathlib.Core.Bool.{true, ◌||◌, false}
 use mathlib.Core.List.{List, [], ◌∷◌, ◌++◌}
 use mathlib.Core.Option.{Option, none, some}
 use native.Mathlib.Omega.{arith}
@@ -11,14 +11,14 @@ use borrow.Author.Tests.{ltb-false}
 use Rattle.std.proofs.Common.{Ok, Err}
 use Rattle.base.specs.Answers.{done}
 use Rattle.base.specs.Tests.{◌when◌else◌}
-use Rattle.base.specs.declared.Refusal.TheVariants.{Space}
+use Rattle.base.specs.declared.Refusal.TheVariants.{Space, Acyclic}
 use Rattle.base.proofs.Bools.{or_none}
 use Rattle.runs.specs.Bytes.{run_bytes}
 use Rattle.runs.specs.Orders.{sharp}
 use Rattle.runs.specs.Rotate.{merged, rotate_runs, turn_left}
-use Rattle.store.specs.Close.{after_close, close_filed, close_filed_of, close_open, close_test, count_of, filed_bytes, filed_runs, no_close_space}
+use Rattle.store.specs.Close.{after_close, close_filed, close_filed_of, close_open, close_test, count_of, filed_bytes, filed_runs, no_close_space, filed_count, acyclic_runs}
 use Rattle.store.specs.Demand.{way_of}
-use Rattle.store.specs.Plain.{Plain, PlainCell, SharedLengths, Unitig, Way, accept, accepted, bytes_of, close, close_effect, close_tests, closed_bytes, cycle, effect, filed, line, tests}
+use Rattle.store.specs.Plain.{Plain, PlainCell, SharedLengths, Unitig, Way, accept, accepted, bytes_of, close, close_effect, close_tests, closed_bytes, cycle, effect, filed, line, tests, acyclic, turned_by, without_last}
 use Rattle.store.specs.State.{Bufs, CellBufs, Outcome, SharedBufs, after, shared_bufs, with_unitig}
 use Rattle.store.specs.declared.state.Cell.{Cell}
 use Rattle.store.specs.declared.state.Current.{Current}
@@ -30,20 +30,28 @@ use Rattle.store.proofs.Laws.Puts.{put_length}
 use Rattle.store.proofs.Laws.Rep.{CellRep, Good, OpenRep, Rep, SharedRep, unitig_runs}
 use Rattle.store.proofs.Laws.Rep as rep
 use Rattle.store.proofs.Laws.Table.{closed_one}
-use Rattle.store.proofs.Laws.Unitigs.{turn_good}
+use Rattle.store.proofs.Laws.Unitigs.{turn_good, but_last, shorter_told, first_of, last_of}
 
 -- ---- the unitig filed
 
--- what is filed are the runs of the filed unitig
-filed_is : {names : ℕ → Type 0} (way : Way) (u : Unitig) → Good names u → filed_runs (way_of way) (length u.coords) (unitig_runs u) ≡ unitig_runs (filed way u)
-unfolding filed_runs way_of filed rotate_runs merged
-filed_is line u g = refl
-filed_is (cycle pivot) u g = ap (λ (c : List ℕ). merged (turn_left (pivot % length u.coords) c)) g.tell
+-- what is filed of a unitig that may be closed so: as many vertices and these runs
+record Files (names : ℕ → Type 0) (way : Way) (u : Unitig) : Type 0 where
+  pub good : Good names (filed way u)
+  pub count : filed_count (way_of way) (length u.coords) ≡ length (filed way u).coords
+  pub runs : filed_runs (way_of way) (filed_count (way_of way) (length u.coords)) (unitig_runs u) ≡ unitig_runs (filed way u)
 
-filed_good : {names : ℕ → Type 0} (way : Way) (u : Unitig) → Good names u → Good names (filed way u) × (length (filed way u).coords ≡ length u.coords)
-unfolding filed
-filed_good line u g = (g, refl)
-filed_good (cycle pivot) u g = turn_good pivot u g
+files : {names : ℕ → Type 0} (way : Way) (u : Unitig) → Good names u → acyclic way u ≡ false → Files names way u
+unfolding acyclic filed filed_count filed_runs merged rotate_runs turned_by way_of
+files line u g e = record { good = g; count = refl; runs = refl }
+files (cycle pivot) u g e =
+    let two : 2 ≤ length u.coords = ltb-false _ _ (or_none _ _ e).0 in
+    let k = shorter_told u g two in
+    let t = turn_good pivot (without_last u) k.good in
+    record {
+      good = t.0;
+      count = sym (t.1 ∙ k.long);
+      runs = ap₂ (λ (m : ℕ) (cs : List ℕ). merged (turn_left (pivot % m) cs)) (sym k.long) (but_last u g);
+    }
 
 -- ---- tests: of the open unitig, and of the shared part's space
 
@@ -51,25 +59,37 @@ module _ {names : ℕ → Type 0} {us : List Unitig} {l : SharedLengths} {s : Sh
   abbrev old : List ℕ
   old = take used opened
 
+  acyclic_agrees : {named : ℕ → Type 0} (u : Unitig) → Good named u → acyclic_runs (way_of way) (length u.coords) (unitig_runs u) ≡ acyclic way u
+  unfolding acyclic_runs acyclic way_of
+  acyclic_agrees u g = go way
+    where
+      go : (way : Way) → acyclic_runs (way_of way) (length u.coords) (unitig_runs u) ≡ acyclic way u
+      go line = refl
+      go (cycle pivot) = rw (first_of u g, last_of u g) refl
+
   space_agrees : (len : ℕ) → no_close_space s len ≡ (ltb l.runs (length (closed_bytes us) + len) || ltb l.table (2 * length us + 2))
   unfolding no_close_space
   space_agrees len = rw (r.run_size.told, r.table_size.told, r.closed.far, r.closed.many)
 
   open_tests : {named : ℕ → Type 0} {c : Option Unitig} {o : Current} → OpenRep named c o used opened
-      → as_verdict (close_open o old (◌when◌else◌ (Err Space) (no_close_space s (length (filed_bytes (way_of way) o old))) (Ok tt))) ≡ close_tests us l way c
+      → as_verdict (close_open (way_of way) o old (◌when◌else◌ (Err Space) (no_close_space s (length (filed_bytes (way_of way) o old))) (Ok tt))) ≡ close_tests us l way c
   unfolding as_verdict close_tests close_open filed_bytes ◌when◌else◌ bytes_of
   open_tests rep.closed = refl
   open_tests (rep.opened {u} {n = m} q g t) =
       let a : sharp m old ≡ true = rw (t, q) g.is_sharp in
-      let f : filed_runs (way_of way) m old ≡ unitig_runs (filed way u) = rw (t, q) (filed_is way u g) in
-      rw (a, f) (refuse_both Space (Ok tt) accept (space_agrees (length (run_bytes (unitig_runs (filed way u))))) (λ z. refl))
+      let k : acyclic_runs (way_of way) m old ≡ acyclic way u = rw (t, q) (acyclic_agrees u g) in
+      rw a
+      (refuse_both Acyclic _ _ k
+      (λ z.
+      let f : filed_runs (way_of way) (filed_count (way_of way) m) old ≡ unitig_runs (filed way u) = rw (t, q) (files way u g z).runs in
+      rw f (refuse_both Space (Ok tt) accept (space_agrees (length (run_bytes (unitig_runs (filed way u))))) (λ z. refl))))
 
   -- what the close of this open unitig files
   record Filing (named : ℕ → Type 0) (c : Option Unitig) (o : Current) : Type 0 where
     pub v : Unitig
     pub good : Good named v
     pub bytes : filed_bytes (way_of way) o old ≡ bytes_of v
-    pub count : count_of o ≡ length v.coords
+    pub count : filed_count (way_of way) (count_of o) ≡ length v.coords
     pub does : (p : Plain) → close_effect p way c ≡ (length p.closed, p.cell.S, none, p.closed ++ (v ∷ []))
     pub room : length (closed_bytes us) + length (bytes_of v) ≤ length b.runs
     pub pair : 2 * length us + 2 ≤ length b.table
@@ -78,14 +98,16 @@ module _ {names : ℕ → Type 0} {us : List Unitig} {l : SharedLengths} {s : Sh
   unfolding close_tests close_effect filed_bytes count_of bytes_of
   filing_of rep.closed e = let z : ◌≡◌ {A = ℕ} 0 1 = cc in absurd (omega arith)
   filing_of (rep.opened {u} {n = m} q g t) e =
-      let a = or_none _ _ (refuse_accept _ _ _ e).0 in
+      let c = refuse_accept _ _ _ e in
+      let a = or_none _ _ (refuse_accept _ _ _ c.1).0 in
+      let f = files way u g c.0 in
       let x : length (closed_bytes us) + length (bytes_of (filed way u)) ≤ l.runs = ltb-false _ _ a.0 in
       let y : 2 * length us + 2 ≤ l.table = ltb-false _ _ a.1 in
       record {
         v = filed way u;
-        good = (filed_good way u g).0;
-        bytes = rw (t, q) (ap run_bytes (filed_is way u g));
-        count = q ∙ sym (filed_good way u g).1;
+        good = f.good;
+        bytes = rw (t, q) (ap run_bytes f.runs);
+        count = rw q f.count;
         does = λ p. refl;
         room = omega (arith, r.run_size.long);
         pair = omega (arith, r.table_size.long);
@@ -94,7 +116,7 @@ module _ {names : ℕ → Type 0} {us : List Unitig} {l : SharedLengths} {s : Sh
 -- ---- the shared part: one unitig more
 
 shared_one : {names : ℕ → Type 0} {us : List Unitig} {l : SharedLengths} {s : Shared} {b : SharedBufs} → SharedRep names us l s b → (v : Unitig) → Good names v → length (closed_bytes us) + length (bytes_of v) ≤ length b.runs → 2 * length us + 2 ≤ length b.table
-    → (c : Cell) (i : ℕ) (way : Way) (bytes : List ℕ) → bytes ≡ bytes_of v → count_of c.current ≡ length v.coords
+    → (c : Cell) (i : ℕ) (way : Way) (bytes : List ℕ) → bytes ≡ bytes_of v → filed_count (way_of way) (count_of c.current) ≡ length v.coords
     → SharedRep names (us ++ (v ∷ [])) l (close_filed_of c s i (way_of way) b.runs b.table bytes).2 (shared_bufs (close_filed_of c s i (way_of way) b.runs b.table bytes).3 (close_filed_of c s i (way_of way) b.runs b.table bytes).4)
 unfolding close_filed_of with_unitig
 shared_one {us} {s} {b} r v g room pair c i way bytes e n =

@@ -15,19 +15,20 @@ use Rattle.base.specs.Answers as answer
 use Rattle.base.specs.Parts.{over}
 use Rattle.base.specs.Tests.{◌when◌else◌}
 use Rattle.base.specs.declared.Refusal.{Refusal}
-use Rattle.base.specs.declared.Refusal.TheVariants.{Damaged, Space}
+use Rattle.base.specs.declared.Refusal.TheVariants.{Acyclic, Damaged, Space}
 use Rattle.base.proofs.Bools.{or_none}
 use Rattle.base.proofs.Parts.{put_tail, tail_is}
 use Rattle.base.proofs.Tests.{when_no, when_yes}
 use Rattle.runs.specs.Bytes.{run_bytes, write_rotated, write_runs}
-use Rattle.runs.specs.Orders.{sharp}
+use Rattle.runs.specs.Orders.{sharp, steady}
 use Rattle.runs.specs.Rotate.{rotate_runs}
 use Rattle.runs.specs.Inside.Lists.{Taken}
 use Rattle.runs.proofs.Laws.Answers.{rotated_written}
 use Rattle.runs.proofs.Laws.Cursor.{rotate_few}
 use Rattle.runs.proofs.Laws.Orders.{steady_sharp, taken}
+use Rattle.runs.proofs.Laws.Shorter.{sharp_last, steady_shorter}
 use Rattle.store.specs.Altered.{bad_current, bad_vertices}
-use Rattle.store.specs.Close.{close_cell, close_filed, close_filed_of, close_open, close_test, count_of, filed_bytes, filed_runs, no_close_space, same_close}
+use Rattle.store.specs.Close.{acyclic_runs, close_cell, close_filed, close_filed_of, close_open, close_test, count_of, filed_bytes, filed_count, filed_runs, no_close_space, same_close}
 use Rattle.store.specs.Inside.Closing.{bytes_into, filed_or_full, table_test}
 use Rattle.store.specs.Inside.Fits.{CloseFits, CloseReady}
 use Rattle.store.specs.Numbered.{Gate, Test, by_gate, by_sequence, numbered, repeated, sequence_of, tested}
@@ -45,10 +46,13 @@ use Rattle.store.proofs.Laws.Tested.{gate_goes, gate_told, gate_went, refuse_go,
 
 -- ---- what is known where close may go
 
-open_let : (k : Current) (old : List ℕ) (rest : Test) → close_open k old rest ≡ Ok tt → (sharp (count_of k) old ≡ true) × (k ≡ Open (count_of k)) × (rest ≡ Ok tt)
+open_let : (way : Way) (k : Current) (old : List ℕ) (rest : Test) → close_open way k old rest ≡ Ok tt → (sharp (count_of k) old ≡ true) × (acyclic_runs way (count_of k) old ≡ false) × (k ≡ Open (count_of k)) × (rest ≡ Ok tt)
 unfolding close_open count_of
-open_let Nothing old rest e = let z : ◌≡◌ {A = ℕ} 0 1 = cc in absurd (omega arith)
-open_let (Open n) old rest e = let a = refuse_go _ _ _ e in (not-false _ a.0, refl, a.1)
+open_let way Nothing old rest e = let z : ◌≡◌ {A = ℕ} 0 1 = cc in absurd (omega arith)
+open_let way (Open n) old rest e =
+    let a = refuse_go _ _ _ e in
+    let b = refuse_go _ _ _ a.1 in
+    (not-false _ a.0, b.0, refl, b.1)
 
 pub count_open : (k : Current) (n : ℕ) → k ≡ Open n → n ≡ count_of k
 unfolding count_of
@@ -59,16 +63,17 @@ unfolding bad_current bad_vertices count_of
 few_vertices Nothing e = omega arith
 few_vertices (Open n) e = ltb-false _ _ (or_none (eqb n 0) _ e).1
 
-close_ready : (c : Cell) (s : Shared) (n : ℕ) (old runs table : List ℕ) → CloseFits c s n (length runs) (length table) → table_test c s old ≡ Ok tt → CloseReady c s old (length runs) (length table)
+close_ready : (c : Cell) (s : Shared) (way : Way) (n : ℕ) (old runs table : List ℕ) → CloseFits c s n (length runs) (length table) → table_test c s way old ≡ Ok tt → CloseReady c s way old (length runs) (length table)
 unfolding table_test
-close_ready c s n old runs table o e =
-    let a = open_let c.current old _ e in
-    let d = refuse_go _ _ _ a.2 in
+close_ready c s way n old runs table o e =
+    let a = open_let way c.current old _ e in
+    let d = refuse_go _ _ _ a.3 in
     let y : 2 * s.unitigs + 2 ≤ s.table = ltb-false _ _ d.0 in
     record {
       is_sharp = a.0;
+      comes_back = a.1;
       few = few_vertices c.current o.current;
-      is_open = a.1;
+      is_open = a.2;
       used_runs = o.runs.inside;
       pair = omega (arith, y, o.table.same);
       small_runs = o.runs.small;
@@ -115,29 +120,29 @@ module _ (file : List ℕ) (at : ℕ) (inside : at ≤ length file) where
       let k : length ws ≤ 4294967295 = omega arith in
       rw q (runs_into a part ws k e)
 
-  pub cycle_filed : (way : Way) (pivot : ℕ) (a : Answer) (part ws : List ℕ) (n : ℕ) → way ≡ Cycle pivot → n ≤ 16777215 → sharp n ws ≡ true
+  pub cycle_filed : (way : Way) (pivot : ℕ) (a : Answer) (part ws : List ℕ) (n : ℕ) → way ≡ Cycle pivot → n ≤ 16777215 → steady n ws ≡ true
       → ◌≡◌ {A = Answer × List ℕ} (a, part) (write_rotated ws n pivot false (mid_of at (length file - at) file))
       → ◌≡◌ {A = Answer × List ℕ} (a, put_mid at (length file - at) file part) (bytes_into (run_bytes (filed_runs way n ws)) at file)
   unfolding filed_runs
-  cycle_filed way pivot a part ws n q small sh e =
-      let t : Taken n ws = taken n ws small (steady_sharp n ws sh) in
+  cycle_filed way pivot a part ws n q small st e =
+      let t : Taken n ws = taken n ws small st in
       let f : length (rotate_runs n pivot false ws) ≤ n = rotate_few n pivot false ws t in
       let k : length (rotate_runs n pivot false ws) ≤ 4294967295 = omega arith in
       rw q (runs_into a part (rotate_runs n pivot false ws) k (e ∙ sym (rotated_written ws n pivot false (mid_of at (length file - at) file) t)))
 
 -- ---- with the table and the state
 
-bytes_open : (way : Way) (k : Current) (n : ℕ) (old : List ℕ) → k ≡ Open n → filed_bytes way k old ≡ run_bytes (filed_runs way n old)
+bytes_open : (way : Way) (k : Current) (n : ℕ) (old : List ℕ) → k ≡ Open n → filed_bytes way k old ≡ run_bytes (filed_runs way (filed_count way n) old)
 unfolding filed_bytes
 bytes_open way k n old e = rw e
 
-module _ (c : Cell) (s : Shared) (way : Way) (old file file' : List ℕ) (w : Result ℕ Refusal) (n end : ℕ) (a : CloseReady c s old (length file) end) (m : n ≡ count_of c.current)
+module _ (c : Cell) (s : Shared) (way : Way) (old file file' : List ℕ) (w : Result ℕ Refusal) (n end : ℕ) (a : CloseReady c s way old (length file) end) (m : n ≡ filed_count way (count_of c.current))
     (e : ◌≡◌ {A = Answer × List ℕ} (of_written w, file') (bytes_into (run_bytes (filed_runs way n old)) s.runs.used file)) where
   abbrev bytes : List ℕ
   bytes = filed_bytes way c.current old
 
   said : ◌≡◌ {A = Answer × List ℕ} (of_written w, file') (bytes_into bytes s.runs.used file)
-  said = e ∙ ap (λ (l : List ℕ). bytes_into l s.runs.used file) (sym (bytes_open way c.current n old (a.is_open ∙ ap Open (sym m))))
+  said = e ∙ ap (λ (l : List ℕ). bytes_into l s.runs.used file) (ap (λ (k : ℕ). run_bytes (filed_runs way k old)) m ∙ sym (bytes_open way c.current (count_of c.current) old a.is_open))
 
   refused_by : (t : Bool) (k : ℕ) → ◌≡◌ {A = Answer × List ℕ} (answer.refused k, file') (◌when◌else◌ (answer.refused 3, file) t (done (length bytes ∷ []), put s.runs.used bytes file))
       → (t ≡ true) × (file' ≡ file)
@@ -180,7 +185,22 @@ module _ (c : Cell) (s : Shared) (way : Way) (old file file' : List ℕ) (w : Re
   filed_done i table len h =
       let l = filed_length len h in
       let f : s.runs.used + length bytes ≤ length file = omega (arith, l.0, l.1) in
-      rw (l.2, m) (ap (λ (j : ℕ). (done (s.unitigs ∷ []), after c c.records.used c.sets 0 c.held.used Nothing i (last.Close way) s.unitigs, with_unitig s (s.runs.used + j) (s.unitigs + 1), put s.runs.used bytes file, set (set table (2 * s.unitigs) s.runs.used) (2 * s.unitigs + 1) (count_of c.current))) l.1 ∙ sym (when_no _ _ _ (le-ltb _ _ f)))
+      rw (l.2, m) (ap (λ (j : ℕ). (done (s.unitigs ∷ []), after c c.records.used c.sets 0 c.held.used Nothing i (last.Close way) s.unitigs, with_unitig s (s.runs.used + j) (s.unitigs + 1), put s.runs.used bytes file, set (set table (2 * s.unitigs) s.runs.used) (2 * s.unitigs + 1) (filed_count way (count_of c.current)))) l.1 ∙ sym (when_no _ _ _ (le-ltb _ _ f)))
+
+-- the open runs are steady for the vertices that are filed
+pub filed_steady : (way : Way) (n : ℕ) (old : List ℕ) → sharp n old ≡ true → steady (filed_count way n) old ≡ true
+unfolding filed_count
+filed_steady Line n old e = steady_sharp n old e
+filed_steady (Cycle pivot) n old e = steady_shorter (n - 1) old (sharp_last n old e)
+
+pub count_filed : (way : Way) (k : Current) (n m : ℕ) → k ≡ Open n → m ≡ filed_count way n → m ≡ filed_count way (count_of k)
+unfolding count_of
+count_filed way k n m e h = rw e h
+
+pub filed_few : (way : Way) (n : ℕ) → n ≤ 16777215 → filed_count way n ≤ 16777215
+unfolding filed_count
+filed_few Line n h = h
+filed_few (Cycle pivot) n h = omega arith
 
 -- the second number of a pair stands behind the first
 pub second_number : (k v : ℕ) (table : List ℕ) → k + 2 ≤ length table → k + 1 < length (set table k v)
@@ -189,18 +209,23 @@ second_number k v table h = omega (arith, length-set table k v)
 -- ---- the table's space is tested before, the space of the run bytes where they are written
 
 module _ {R : Type 0} (told : Answer → R) (go : R) where
-  space_split : (t long full : Bool) → by_gate (tested (◌when◌else◌ (Err Damaged) t (◌when◌else◌ (Err Space) (long || full) (Ok tt)))) told go ≡ by_gate (tested (◌when◌else◌ (Err Damaged) t (◌when◌else◌ (Err Space) full (Ok tt)))) told (◌when◌else◌ (told (answer.refused 3)) long go)
+  space_split : (long full : Bool) → by_gate (tested (◌when◌else◌ (Err Space) (long || full) (Ok tt))) told go ≡ by_gate (tested (◌when◌else◌ (Err Space) full (Ok tt))) told (◌when◌else◌ (told (answer.refused 3)) long go)
   unfolding ◌when◌else◌ by_gate tested
-  space_split true long full = refl
-  space_split false true true = refl
-  space_split false true false = refl
-  space_split false false true = refl
-  space_split false false false = refl
+  space_split true true = refl
+  space_split true false = refl
+  space_split false true = refl
+  space_split false false = refl
 
-  open_split : (k : Current) (old : List ℕ) (long full : Bool) → by_gate (tested (close_open k old (◌when◌else◌ (Err Space) (long || full) (Ok tt)))) told go ≡ by_gate (tested (close_open k old (◌when◌else◌ (Err Space) full (Ok tt)))) told (◌when◌else◌ (told (answer.refused 3)) long go)
+  -- behind a test of another refusal
+  later_split : (r : Refusal) (t : Bool) (x y : Test) (late : R) → by_gate (tested x) told go ≡ by_gate (tested y) told late → by_gate (tested (◌when◌else◌ (Err r) t x)) told go ≡ by_gate (tested (◌when◌else◌ (Err r) t y)) told late
+  unfolding ◌when◌else◌ by_gate tested
+  later_split r true x y late e = refl
+  later_split r false x y late e = e
+
+  open_split : (way : Way) (k : Current) (old : List ℕ) (long full : Bool) → by_gate (tested (close_open way k old (◌when◌else◌ (Err Space) (long || full) (Ok tt)))) told go ≡ by_gate (tested (close_open way k old (◌when◌else◌ (Err Space) full (Ok tt)))) told (◌when◌else◌ (told (answer.refused 3)) long go)
   unfolding close_open by_gate tested
-  open_split Nothing old long full = refl
-  open_split (Open n) old long full = space_split (not (sharp n old)) long full
+  open_split way Nothing old long full = refl
+  open_split way (Open n) old long full = later_split Damaged (not (sharp n old)) _ _ _ (later_split Acyclic (acyclic_runs way n old) _ _ _ (space_split long full))
 
   sequence_split : (t : Result Sequence Refusal) (same : Bool) (a : ℕ) (x y : Test) (late : R) → by_gate (tested x) told go ≡ by_gate (tested y) told late → by_gate (by_sequence t (repeated same a) x) told go ≡ by_gate (by_sequence t (repeated same a) y) told late
   unfolding by_sequence repeated ◌when◌else◌ by_gate
@@ -210,19 +235,19 @@ module _ {R : Type 0} (told : Answer → R) (go : R) where
   sequence_split (Ok New) same a x y late e = e
 
 closed_is : (c : Cell) (s : Shared) (i : ℕ) (way : Way) (o k t : List ℕ) → s.runs.length ≡ length k
-    → close_cell c s i way o k t ≡ by_gate (numbered c i (same_close c.last way) (table_test c s (take c.opened.used o))) (λ (a : Answer). (a, c, s, k, t)) (filed_or_full c s i way (take c.opened.used o) k t)
+    → close_cell c s i way o k t ≡ by_gate (numbered c i (same_close c.last way) (table_test c s way (take c.opened.used o))) (λ (a : Answer). (a, c, s, k, t)) (filed_or_full c s i way (take c.opened.used o) k t)
 unfolding close_cell close_test no_close_space table_test filed_or_full numbered
 closed_is c s i way o k t e =
     let old : List ℕ = take c.opened.used o in
     let end : ℕ = s.runs.used + length (filed_bytes way c.current (take c.opened.used o)) in
     sequence_split (λ (a : Answer). (a, c, s, k, t)) (close_filed c s i way o k t) (sequence_of c.number i) (same_close c.last way) c.answer _ _ _
-    (open_split (λ (a : Answer). (a, c, s, k, t)) (close_filed c s i way o k t) c.current old (ltb s.runs.length end) (ltb s.table (2 * s.unitigs + 2)))
-    ∙ ap (λ (m : ℕ). by_gate (numbered c i (same_close c.last way) (table_test c s (take c.opened.used o))) (λ (a : Answer). (a, c, s, k, t)) (◌when◌else◌ (answer.refused 3, c, s, k, t) (ltb m end) (close_filed c s i way o k t))) e
+    (open_split (λ (a : Answer). (a, c, s, k, t)) (close_filed c s i way o k t) way c.current old (ltb s.runs.length end) (ltb s.table (2 * s.unitigs + 2)))
+    ∙ ap (λ (m : ℕ). by_gate (numbered c i (same_close c.last way) (table_test c s way (take c.opened.used o))) (λ (a : Answer). (a, c, s, k, t)) (◌when◌else◌ (answer.refused 3, c, s, k, t) (ltb m end) (close_filed c s i way o k t))) e
 
 -- ---- what the gate of a close told
 
 module _ (c : Cell) (s : Shared) (i : ℕ) (way : Way) (o k t : List ℕ) (fits : CloseFits c s (length o) (length k) (length t)) (g : Gate) (r : Option (Result ℕ Refusal))
-    (h : g ≡ numbered c i (same_close c.last way) (table_test c s (take c.opened.used o))) (e : r ≡ result_transpose g) where
+    (h : g ≡ numbered c i (same_close c.last way) (table_test c s way (take c.opened.used o))) (e : r ≡ result_transpose g) where
   abbrev told : Answer → Answer × Cell × Shared × List ℕ × List ℕ
   told a = (a, c, s, k, t)
 
@@ -235,8 +260,8 @@ module _ (c : Cell) (s : Shared) (i : ℕ) (way : Way) (o k t : List ℕ) (fits 
   pub close_told : (a : Result ℕ Refusal) → r ≡ Some a → ◌≡◌ {A = Answer × Cell × Shared × List ℕ × List ℕ} (of_answer a, c, s, k, t) (close_cell c s i way o k t)
   close_told a q = gate_told g told filed r e a q ∙ close_is
 
-  pub close_goes : r ≡ None → CloseReady c s (take c.opened.used o) (length k) (length t)
-  close_goes q = close_ready c s _ (take c.opened.used o) k t fits (said_go c i _ _ (sym h ∙ gate_goes g told filed r e q))
+  pub close_goes : r ≡ None → CloseReady c s way (take c.opened.used o) (length k) (length t)
+  close_goes q = close_ready c s way _ (take c.opened.used o) k t fits (said_go c i _ _ (sym h ∙ gate_goes g told filed r e q))
 
   pub close_done : r ≡ None → (x : Answer × Cell × Shared × List ℕ × List ℕ) → x ≡ filed_or_full c s i way (take c.opened.used o) k t → x ≡ close_cell c s i way o k t
   close_done q x p = gate_went g told filed r e q x p ∙ close_is

@@ -8,7 +8,7 @@ use native.Mathlib.Omega.{arith}
 use lib.ListN.{length, get_or, take, drop, replicate, length-map}
 use lib.Seq.{append_snoc, take-length, take-suc}
 use borrow.Author.Tests.{eqb-true, ltb-true, not-false}
-use Rattle.base.proofs.All.{All, all_append, all_at, all_drop, all_less, all_replicate, all_reverse}
+use Rattle.base.proofs.All.{All, all_append, all_at, all_drop, all_less, all_replicate, all_reverse, all_take}
 use Rattle.base.proofs.Bools.{and_true}
 use Rattle.runs.specs.Append.{append_runs, appendix}
 use Rattle.runs.specs.Bytes.{found, read_runs}
@@ -28,9 +28,13 @@ use Rattle.runs.proofs.Laws.Orders.{end_le, sharp_steady, sharp_yes, steady_shar
 use Rattle.runs.proofs.Laws.Starts.{starts_joined, starts_reversed}
 use Rattle.runs.proofs.Laws.Widths.{Narrow, coloured_words}
 use Rattle.store.specs.Join.{all_named}
-use Rattle.store.specs.Plain.{Unitig, bytes_of, cycle, differs, expanded, filed, inner_starts, joined, piece_of, turned_round}
+use Rattle.store.specs.Plain.{Unitig, bytes_of, differs, expanded, inner_starts, joined, piece_of, turned_by, turned_round, without_last}
 use Rattle.store.proofs.Laws.Names.{named_one}
 use Rattle.store.proofs.Laws.Rep.{Good, Named, unitig_runs}
+use Rattle.runs.specs.Inside.Lists.{cut_to}
+use Rattle.runs.proofs.Laws.Shorter.{sharp_last, colours_shorter, cut_colours, sharp_cut, starts_cut}
+use Rattle.std.specs.Prelude.{filter}
+use lib.Dec.{ltb}
 
 -- ---- what its runs say of a unitig
 
@@ -206,8 +210,31 @@ module _ {names : ℕ → Type 0} (u v : Unitig) (g : Good names u) (h : Good na
 
 -- ---- a cycle
 
-pub turn_good : {names : ℕ → Type 0} (pivot : ℕ) (u : Unitig) → Good names u → Good names (filed (cycle pivot) u) × (length (filed (cycle pivot) u).coords ≡ length u.coords)
-unfolding filed merged
+module _ {names : ℕ → Type 0} (u : Unitig) (g : Good names u) where
+  abbrev less : ℕ
+  less = length u.coords - 1
+
+  list : sharp (suc less) (unitig_runs u) ≡ true
+  list = sharp_last (length u.coords) (unitig_runs u) g.is_sharp
+
+  -- its runs colour all its vertices but the last
+  pub but_last : colours less (unitig_runs u) ≡ (without_last u).coords
+  unfolding without_last
+  but_last =
+      let l : suc less ≡ length u.coords = omega (arith, g.vertices) in
+      colours_shorter less (unitig_runs u) list ∙ ap (take less) (ap (λ (m : ℕ). colours m (unitig_runs u)) l ∙ g.tell)
+
+  -- without its last vertex it is told by its runs, but for one that would have no vertex
+  pub shorter_told : 2 ≤ length u.coords → Told names less (cut_to less (unitig_runs u)) (without_last u)
+  unfolding without_last expanded
+  shorter_told two =
+      let cs : colours less (cut_to less (unitig_runs u)) ≡ take less u.coords = cut_colours less (unitig_runs u) list ∙ but_last in
+      let ss : starts (cut_to less (unitig_runs u)) ≡ filter (λ (s : ℕ). ltb s less) u.starts = starts_cut less (unitig_runs u) ∙ ap (λ (ss : List ℕ). filter (λ (s : ℕ). ltb s less) ss) g.offsets in
+      rw (← cs, ← ss)
+      (told names less (cut_to less (unitig_runs u)) (omega (arith, g.few)) (sharp_cut less (unitig_runs u) list (omega (arith, two))) (rw cs (all_take names less u.coords g.named)))
+
+pub turn_good : {names : ℕ → Type 0} (pivot : ℕ) (u : Unitig) → Good names u → Good names (turned_by pivot u) × (length (turned_by pivot u).coords ≡ length u.coords)
+unfolding turned_by merged
 turn_good {names} pivot u g =
     let cs : List ℕ = turn_left (pivot % length u.coords) u.coords in
     let l : length cs ≡ length u.coords = turn_long (pivot % length u.coords) u.coords in

@@ -10,10 +10,10 @@ use Rattle.store.specs.declared.state.Cell.{Cell}
 use Rattle.store.specs.declared.state.Shared.{Shared}
 use Rattle.store.specs.declared.state.Way.{Way}
 
--- 13, 5, and 3 of the table
-unfoldable pub table_test : Cell → Shared → (old : List ℕ) → Test
-table_test c s old =
-    close_open c.current old
+-- 13, 5, 16, and 3 of the table
+unfoldable pub table_test : Cell → Shared → Way → (old : List ℕ) → Test
+table_test c s way old =
+    close_open way c.current old
     (Err Space when ltb s.table (2 * s.unitigs + 2) else Ok tt)
 
 -- bytes behind the used ones, or 3

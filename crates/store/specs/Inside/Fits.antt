@@ -5,7 +5,7 @@ use Rattle.codec.specs.Sets.{within}
 use Rattle.runs.specs.Orders.{most_vertices, sharp}
 use Rattle.runs.specs.Reverse.{oriented}
 use Rattle.store.specs.Altered.{bad_current}
-use Rattle.store.specs.Close.{count_of}
+use Rattle.store.specs.Close.{acyclic_runs, count_of}
 use Rattle.store.specs.Join.{open_at, open_count, open_new, open_test}
 use Rattle.store.specs.Plain.{Lengths}
 use Rattle.store.specs.State.{put}
@@ -13,6 +13,7 @@ use Rattle.store.specs.declared.state.Current.TheVariants.{Open}
 use Rattle.store.specs.declared.state.Cell.{Cell}
 use Rattle.store.specs.declared.state.Shared.{Shared}
 use Rattle.store.specs.declared.state.Store.{Store}
+use Rattle.store.specs.declared.state.Way.{Way}
 
 -- a buffer as it was at start, of which no more is used than there is
 pub record Fits (length used now : ℕ) : Type 0 where
@@ -71,8 +72,9 @@ pub record JoinReady (c : Cell) (n : ℕ) (reversed : Bool) (piece opened : List
   pub room : length piece ≤ held
 
 -- where close may go, with these open runs, but for the space of its run bytes
-pub record CloseReady (c : Cell) (s : Shared) (old : List ℕ) (runs table : ℕ) : Type 0 where
+pub record CloseReady (c : Cell) (s : Shared) (way : Way) (old : List ℕ) (runs table : ℕ) : Type 0 where
   pub is_sharp : sharp (count_of c.current) old ≡ true
+  pub comes_back : acyclic_runs way (count_of c.current) old ≡ false
   pub few : count_of c.current ≤ 16777215
   pub is_open : c.current ≡ Open (count_of c.current)
   pub used_runs : s.runs.used ≤ runs
