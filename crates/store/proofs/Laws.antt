@@ -31,7 +31,8 @@ pub mod Proved
 pub mod History
 pub mod Next
 pub mod WhileOpen
-pub mod Twelve
+pub mod Cycles
+pub mod Refusals
 pub mod Empty
 -- Worked cases, computed.
 pub mod Cases

@@ -1,15 +1,18 @@
 -- The page to read: each method meets its contract, whose right side is a step, and every list of steps after an accepted start keeps demand 3.
 use Rattle.codec.specs.History.{FilesOneHistoryStatement}
 use Rattle.codec.proofs.Laws.History.{files_one_history}
+use Rattle.store.specs.Cycles.{CyclesStatement, OnlyCyclesStatement}
 use Rattle.store.specs.Demand.{DemandStatement}
 use Rattle.store.specs.Empty.{EmptySetStatement}
 use Rattle.store.specs.History.{StoresOneHistoryStatement}
 use Rattle.store.specs.Once.{ExactlyOnceStatement}
+use Rattle.store.specs.Refusals.{RefusalsStatement}
 use Rattle.store.specs.WhileOpen.{NeverTwelveStatement, WhileOpenStatement}
 use Rattle.store.proofs.Laws.Empty.{empty_set_lem}
 use Rattle.store.proofs.Laws.History.{stores_one_history}
 use Rattle.store.proofs.Laws.Proved.{demand_3, once_each}
-use Rattle.store.proofs.Laws.Twelve.{never_12}
+use Rattle.store.proofs.Laws.Cycles.{cycles_lem}
+use Rattle.store.proofs.Laws.Refusals.{never_12, only_cycles, refusals}
 use Rattle.store.proofs.Laws.WhileOpen.{while_open_lem}
 use Rattle.store.proofs.state.Store.start.Statement as start-s
 use Rattle.store.proofs.state.Store.start.Met as start-m
@@ -41,6 +44,11 @@ pub record Whole (M : Type 1) : Type 2 where
   pub while_open : WhileOpenStatement
   -- and no call is told 12
   pub never_12 : NeverTwelveStatement
+  -- cycles, whose last vertex is their first: their close, what is filed and shown; and that 16 is told of nothing else
+  pub cycles : CyclesStatement
+  pub only_cycles : OnlyCyclesStatement
+  -- each call is told a refusal that the specification names for it, or none
+  pub refusals : RefusalsStatement
 
 pub whole : {M : Type 1} → Whole M
 whole =
@@ -57,4 +65,7 @@ whole =
       empty_set = empty_set_lem;
       while_open = while_open_lem;
       never_12 = never_12;
+      cycles = cycles_lem;
+      only_cycles = only_cycles;
+      refusals = refusals;
     }

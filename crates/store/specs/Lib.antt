@@ -20,5 +20,9 @@ pub mod History
 pub mod Empty
 -- And one of sets filed while a unitig is open.
 pub mod WhileOpen
+-- And one of cycles, whose last vertex is their first.
+pub mod Cycles
+-- Which refusals there are at all, on every state.
+pub mod Refusals
 -- What serves the functions inside the crate and their proofs; no public contract rests on it alone.
 pub mod Inside

@@ -1,10 +1,12 @@
 -- Laws of lists that hold for any runs.
-use Prim.Native.Nat.{ℕ, zero, suc, ◌+◌, ◌-◌, ◌≤◌, ◌<◌}
+use Prim.Native.Nat.{ℕ, zero, suc, ◌+◌, ◌-◌, ◌%◌, ◌≤◌, ◌<◌}
 use mathlib.Core.Path.{◌≡◌, refl, sym, ap, ap₂, ◌∙◌}
 use mathlib.Core.List.{List, [], ◌∷◌, ◌++◌, reverse, reverse-cons}
 use native.Mathlib.Omega.{arith}
 use native.Mathlib.Nat.{add-zero}
 use native.Mathlib.Numerals.{add-one}
+use native.Mathlib.Decide.{dec_lt}
+use Rattle.std.proofs.Math.Nat.{add-mod-mod, add-mod_left, mod-eq_of_lt, mod-lt}
 use lib.ListN.{length, take, drop, get_or, set, length-set, take-append-drop, replicate, length-append, length-drop, get_or-append}
 use lib.Seq.{drop-cons, get_or-append-add, get_or-drop, get_or-take, length-take-le, take-suc, take-suc-set, drop-set-lt, drop-drop, take_all}
 use Rattle.base.specs.Parts.{over}
@@ -48,6 +50,31 @@ module _ {A : Type 0} (p : ℕ) (xs : List A) (z : A) (inside : p ≤ length xs)
       let l : length (drop p xs) ≡ length xs - p = length-drop p xs in
       let b : v - (length xs - p) < p = omega arith in
       get_or_behind (drop p xs) (take p xs) v z (omega arith) ∙ ap (λ (n : ℕ). get_or (take p xs) (v - n) z) l ∙ get_or-take p xs (v - (length xs - p)) z b
+
+-- turned left by pivot mod n, place v has what place (v + pivot) mod n had
+pub turned_at : {A : Type 0} (pivot : ℕ) (xs : List A) (z : A) (v : ℕ) → v < length xs → get_or (drop (pivot % length xs) xs ++ take (pivot % length xs) xs) v z ≡ get_or xs ((v + pivot) % length xs) z
+turned_at {A} pivot xs z v h = go (dec_lt (v + p) n)
+  where
+    n : ℕ
+    n = length xs
+
+    p : ℕ
+    p = pivot % length xs
+
+    low : p < n
+    low = mod-lt pivot (omega (arith, h))
+
+    same : (v + p) % n ≡ (v + pivot) % n
+    same = add-mod-mod v pivot n
+
+    go : Dec (v + p < n) → get_or (drop p xs ++ take p xs) v z ≡ get_or xs ((v + pivot) % n) z
+    go (yes a) =
+        let e : p + v ≡ v + p = omega arith in
+        turn_front p xs z (omega (arith, low)) v (omega (arith, a)) ∙ ap (λ (k : ℕ). get_or xs k z) (e ∙ sym (mod-eq_of_lt a) ∙ same)
+    go (no a) =
+        let k : v - (n - p) < n = omega (arith, h, low) in
+        let e : v + p ≡ n + (v - (n - p)) = omega (arith, a, low) in
+        turn_back p xs z (omega (arith, low)) v (omega (arith, a, low)) h ∙ ap (λ (k : ℕ). get_or xs k z) (sym (mod-eq_of_lt k) ∙ sym (add-mod_left n (v - (n - p))) ∙ ap (λ (j : ℕ). j % n) (sym e) ∙ same)
 
 pub all_turn : {A : Type 0} (P : A → Type 0) (k : ℕ) (xs : List A) → All P xs → All P (drop k xs ++ take k xs)
 all_turn P k xs a = all_append P (drop k xs) (take k xs) (all_drop P k xs a) (all_take P k xs a)

@@ -2,11 +2,11 @@
 use Prim.Native.Nat.{ℕ, zero, suc, ◌+◌, ◌-◌, ◌%◌, ◌≤◌, ◌<◌}
 use mathlib.Core.Path.{◌≡◌, refl, sym, ap, ◌∙◌, subst}
 use mathlib.Core.Bool.{Bool, true, false}
-use mathlib.Core.List.{List, [], ◌∷◌, ◌++◌, append-nil, map, reverse}
+use mathlib.Core.List.{List, [], ◌∷◌, ◌++◌, append-nil, reverse}
 use native.Mathlib.Omega.{arith}
 use borrow.Author.Tests.{eqb-true, le-leb, lt-ltb, ltb-false, ltb-true}
 use lib.Dec.{ltb}
-use lib.ListN.{length, replicate, take, length-replicate}
+use lib.ListN.{replicate, take, length-replicate}
 use lib.Seq.{take-append-add}
 use Rattle.std.specs.Prelude.{cond, filter}
 use Rattle.base.proofs.Bools.{and_both, and_true, false_true}
@@ -14,7 +14,6 @@ use Rattle.runs.specs.Words.{coordinate, offset}
 use Rattle.runs.specs.Colours.{colours, next, starts}
 use Rattle.runs.specs.Inside.Lists.{cut_to}
 use Rattle.runs.specs.Orders.{climbs, most_vertices, rises, sharp, steady}
-use Rattle.runs.specs.Reverse.{oriented}
 use Rattle.runs.specs.Rotate.{merged, rotate_runs, turn_left}
 use Rattle.runs.proofs.Laws.Claims.{reversed_colours}
 use Rattle.runs.proofs.Laws.Orders.{climbs_below, sharp_vertices, steady_sharp}

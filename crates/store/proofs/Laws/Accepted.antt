@@ -72,7 +72,7 @@ module _ (p : Plain) (i : ℕ) (u : Update) where
 
 -- ---- S is what was accepted
 
-close_sets : (p : Plain) (way : Way) (c : Option Unitig) → (close_effect p way c).1 ≡ p.cell.S
+pub close_sets : (p : Plain) (way : Way) (c : Option Unitig) → (close_effect p way c).1 ≡ p.cell.S
 unfolding close_effect
 close_sets p way none = refl
 close_sets p way (some u) = refl

@@ -35,12 +35,12 @@ use Rattle.store.proofs.Laws.Unitigs.{turn_good, but_last, shorter_told, first_o
 -- ---- the unitig filed
 
 -- what is filed of a unitig that may be closed so: as many vertices and these runs
-record Files (names : ℕ → Type 0) (way : Way) (u : Unitig) : Type 0 where
+pub record Files (names : ℕ → Type 0) (way : Way) (u : Unitig) : Type 0 where
   pub good : Good names (filed way u)
   pub count : filed_count (way_of way) (length u.coords) ≡ length (filed way u).coords
   pub runs : filed_runs (way_of way) (filed_count (way_of way) (length u.coords)) (unitig_runs u) ≡ unitig_runs (filed way u)
 
-files : {names : ℕ → Type 0} (way : Way) (u : Unitig) → Good names u → acyclic way u ≡ false → Files names way u
+pub files : {names : ℕ → Type 0} (way : Way) (u : Unitig) → Good names u → acyclic way u ≡ false → Files names way u
 unfolding acyclic filed filed_count filed_runs merged rotate_runs turned_by way_of
 files line u g e = record { good = g; count = refl; runs = refl }
 files (cycle pivot) u g e =
@@ -152,6 +152,12 @@ close_cell_lem r s unitigs i way runs table bytes e =
 
 -- ---- the store
 
+-- it answers the unitig's place
+pub close_place : (p : Plain) (way : Way) (c : Option Unitig) → (close_effect p way c).0 ≡ length p.closed
+unfolding close_effect
+close_place p way none = refl
+close_place p way (some u) = refl
+
 abbrev pub close_done : Store → Bufs → ℕ → Way → Outcome
 close_done s b i way = after_close s b (close_filed s.cell s.shared i (way_of way) b.cell.opened b.shared.runs b.shared.table)
 
@@ -173,9 +179,5 @@ module _ {p : Plain} {s : Store} {b : Bufs} (r : Rep p s b) where
       })
 
   pub close_answer : (i : ℕ) (way : Way) → (close_done s b i way).0 ≡ done ((effect p (close way)).0 ∷ [])
-  unfolding effect close_filed_of close_effect
-  close_answer i way = rw r.shared.closed.many (go p.cell.current)
-    where
-      go : (c : Option Unitig) → done (length p.closed ∷ []) ≡ done ((close_effect p way c).0 ∷ [])
-      go none = refl
-      go (some u) = refl
+  unfolding effect close_filed_of
+  close_answer i way = rw (r.shared.closed.many, close_place p way p.cell.current) refl

@@ -7,9 +7,10 @@ use borrow.Author.Tests.{eq-eqb, ne_eqb}
 use Rattle.base.specs.Answers.{done, refused}
 use Rattle.base.specs.Tests.{◌when◌else◌}
 use Rattle.store.specs.Demand.{Seen, as_seen, seen, sent}
-use Rattle.store.specs.Plain.{Plain, Update, Verdict, accept, accepted, answer, effect, plain_step, plain_update, refuse, repeat, tests, verdict}
+use Rattle.store.specs.Plain.{Plain, Update, Verdict, accept, accepted, answer, effect, plain_step, plain_update, refuse, repeat, tests, verdict, refusal}
 use Rattle.store.specs.WhileOpen.{next_call}
 use Rattle.store.proofs.Laws.Accepted.{tests_not_repeat}
+use mathlib.Core.Bool.{Bool, true, false}
 
 pub next_number : (p : Plain) (u : Update) → verdict p (p.cell.last + 1) u ≡ tests p u
 unfolding verdict ◌when◌else◌
@@ -22,6 +23,14 @@ next_number p u =
 pub next_goes : (p : Plain) (u : Update) → tests p u ≡ accept → plain_step p (sent (next_call p u)) ≡ (answer (effect p u).0, accepted p (p.cell.last + 1) u (effect p u))
 unfolding plain_step plain_update sent
 next_goes p u e = rw (next_number p u, e)
+
+-- what it is told by two tests
+pub two_tests : (j k : ℕ) (s t : Bool) (p : Plain) (i : ℕ) (u : Update)
+    → (plain_update (◌when◌else◌ (refuse j) s (◌when◌else◌ (refuse k) t accept)) p i u).0 ≡ ◌when◌else◌ (refusal j) s (◌when◌else◌ (refusal k) t (answer (effect p u).0))
+unfolding plain_update ◌when◌else◌
+two_tests j k true t p i u = refl
+two_tests j k false true p i u = refl
+two_tests j k false false p i u = refl
 
 -- a refusal that it is told is one of its tests
 pub refused_by : (p : Plain) (u : Update) (k : ℕ) → (as_seen (plain_step p (sent (next_call p u))).0 []).answer ≡ refused k → tests p u ≡ refuse k

@@ -32,7 +32,7 @@ use Rattle.store.proofs.Laws.Demand.{began, left, records_kept, runs_agree}
 use Rattle.store.proofs.Laws.Flats.{flat_more}
 use Rattle.store.proofs.Laws.Gates.{found_later, refuse_less}
 use Rattle.store.proofs.Laws.Names.{names_more, names_told, told_names}
-use Rattle.store.proofs.Laws.Next.{answered, next_goes, next_number, refused_by}
+use Rattle.store.proofs.Laws.Next.{answered, next_goes, next_number, refused_by, two_tests}
 use Rattle.store.proofs.Laws.Rep.{Named, OpenRep, Rep}
 use Rattle.store.proofs.Laws.Rep as rep
 use Rattle.store.proofs.Laws.Trace.{step_ok}
@@ -61,17 +61,10 @@ unfolding equal
 equal_self [] = refl
 equal_self (x ∷ xs) = rw (eq-eqb x x refl, equal_self xs)
 
-told_by_lem : (s f : Bool) (p : Plain) (i : ℕ) (u : Update)
-    → (plain_update (◌when◌else◌ (refuse 2) s (◌when◌else◌ (refuse 3) f accept)) p i u).0 ≡ ◌when◌else◌ (refusal 2) s (◌when◌else◌ (refusal 3) f (answer (effect p u).0))
-unfolding plain_update ◌when◌else◌
-told_by_lem true f p i u = refl
-told_by_lem false true p i u = refl
-told_by_lem false false p i u = refl
-
 module _ (p : Plain) (ids : List ℕ) where
   add_told : (plain_step p (sent (next_call p (add ids)))).0 ≡ add_reply p ids
   unfolding plain_step sent tests add_tests effect add_reply
-  add_told = rw (next_number p (add ids)) (told_by_lem (not (is_set p.N ids)) (no_space_for p ids) p (p.cell.last + 1) (add ids))
+  add_told = rw (next_number p (add ids)) (two_tests 2 3 (not (is_set p.N ids)) (no_space_for p ids) p (p.cell.last + 1) (add ids))
 
   pub add_taken : is_set p.N ids ≡ true → no_space_for p ids ≡ false → tests p (add ids) ≡ accept
   unfolding tests add_tests ◌when◌else◌

@@ -1,0 +1,231 @@
+-- Cycles, whose last vertex is their first: what a close as one is told, and what it leaves.
+use Prim.Native.Nat.{ℕ, suc, ◌+◌, ◌-◌, ◌*◌, ◌/◌, ◌%◌, ◌≤◌, ◌<◌}
+use mathlib.Core.Bool.{true, false}
+use mathlib.Core.List.{List, [], ◌∷◌, ◌++◌}
+use mathlib.Core.Option.{Option, some}
+use mathlib.Core.Path.{◌≡◌, refl, sym, ap, ◌∙◌, ap₂}
+use native.Mathlib.Omega.{arith}
+use lib.Dec.{leb}
+use lib.ListN.{length, get_or, take, length-append, drop, drop_of_length-le}
+use lib.Seq.{get_or-append_seam, get_or-take}
+use borrow.Author.Tests.{eq-eqb, le-leb, le-ltb, lt-leb, ne_eqb, ltb-false}
+use Rattle.std.proofs.Math.Nat.{mod-lt}
+use Rattle.base.specs.Answers.{done, refused}
+use Rattle.base.specs.Parts.{over}
+use Rattle.base.specs.Tests.{◌when◌else◌}
+use Rattle.runs.specs.Bytes.{found}
+use Rattle.runs.specs.Orders.{sharp}
+use Rattle.runs.specs.Rotate.{merged}
+use Rattle.runs.proofs.Laws.Lists.{turned_at}
+use Rattle.store.specs.Close.{filed_count}
+use Rattle.store.specs.Cycles.{CycleFiled, Cycles, CyclesAfter, CyclesStatement, coords_of, cycle_reply, no_space_for_cycle, no_way_back}
+use Rattle.store.specs.Demand.{LentCall, as_seen, out_of, runs_of, seen, sent, showing, store_step, way_of}
+use Rattle.store.specs.Plain.{Plain, Reply, Unitig, Way, accept, accepted, acyclic, again, answer, close, close_effect, close_tests, coord_at, cycle, effect, equal_updates, equal_ways, filed, ids_at, no_unitig, no_vertex, plain_show, plain_step, plain_update, refusal, tests, turned_by, verdict, without_last, refuse, bytes_of}
+use Rattle.store.specs.Start.{bad_lengths, bad_limits}
+use Rattle.store.specs.State.{Bufs, lengths_of}
+use Rattle.store.specs.WhileOpen.{next_call, set_named}
+use Rattle.store.specs.declared.state.Current.{Current}
+use Rattle.store.specs.declared.state.Store.{Store}
+use Rattle.store.proofs.Laws.Closes.{files, close_place}
+use Rattle.store.proofs.Laws.Demand.{began, left, runs_agree}
+use Rattle.store.proofs.Laws.Next.{next_goes, next_number, two_tests}
+use Rattle.store.proofs.Laws.Rep.{Good, Named, OpenRep, Rep, unitig_runs, NamedIn}
+use Rattle.store.proofs.Laws.Rep as rep
+use Rattle.store.proofs.Laws.Shows.{count_is, good_here, named_narrow, runs_are}
+use Rattle.store.proofs.Laws.Trace.{step_ok}
+use Rattle.store.proofs.Laws.Accepted.{close_sets}
+use Rattle.base.proofs.Bools.{or_none, or_right, or_false}
+use Rattle.runs.proofs.Laws.Widths.{Narrow}
+use Rattle.store.proofs.Laws.Unitigs.{shorter_told}
+use Rattle.codec.specs.Flat.{flat}
+
+open_good : {names : ℕ → Type 0} {used : ℕ} {c : Option Unitig} {o : Current} {runs : List ℕ} → OpenRep names c o used runs → (u : Unitig) → c ≡ some u → Good names u
+open_good rep.closed u e = let z : ◌≡◌ {A = ℕ} 0 1 = cc in absurd (omega arith)
+open_good (rep.opened {u = v} q g t) u e = let z : v ≡ u = cc in rw (← z) g
+
+-- ---- a cycle by its coordinates
+
+module _ (u : Unitig) (pivot : ℕ) where
+  abbrev n : ℕ
+  n = length u.coords - 1
+
+  -- each vertex of the walk but the last
+  cycle_coords : (v : ℕ) → length (without_last u).coords ≡ n → v < n → get_or (filed (cycle pivot) u).coords v 0 ≡ get_or u.coords ((v + pivot) % n) 0
+  unfolding filed turned_by without_last
+  cycle_coords v l h =
+      let k : (v + pivot) % n < n = mod-lt (v + pivot) (omega (arith, h)) in
+      turned_at pivot (take n u.coords) 0 v (omega (arith, l, h)) ∙ ap (λ (m : ℕ). get_or (take n u.coords) ((v + pivot) % m) 0) l ∙ get_or-take n u.coords ((v + pivot) % n) 0 k
+
+  cycle_merged : unitig_runs (filed (cycle pivot) u) ≡ merged (filed (cycle pivot) u).coords
+  unfolding filed turned_by merged
+  cycle_merged = refl
+
+-- ---- the close with the next number
+
+module _ {p : Plain} {s : Store} {b : Bufs} (r : Rep p s b) (u : Unitig) (pivot : ℕ) (is : p.cell.current ≡ some u) where
+  abbrev way : Way
+  way = cycle pivot
+
+  cycle_tests : tests p (close way) ≡ ◌when◌else◌ (refuse 16) (no_way_back u.coords) (◌when◌else◌ (refuse 3) (no_space_for_cycle p pivot u) accept)
+  unfolding tests close_tests acyclic
+  cycle_tests = rw is refl
+
+  place_is : (effect p (close way)).0 ≡ length p.closed
+  unfolding effect
+  place_is = close_place p way p.cell.current
+
+  cycle_told : (plain_step p (sent (next_call p (close way)))).0 ≡ cycle_reply p pivot u
+  unfolding plain_step sent cycle_reply
+  cycle_told =
+      rw (next_number p (close way), cycle_tests)
+      (two_tests 16 3 (no_way_back u.coords) (no_space_for_cycle p pivot u) p (p.cell.last + 1) (close way)
+      ∙ ap (λ (a : ℕ). ◌when◌else◌ (refusal 16) (no_way_back u.coords) (◌when◌else◌ (refusal 3) (no_space_for_cycle p pivot u) (answer a))) place_is)
+
+  module _ (back : no_way_back u.coords ≡ false) (room : no_space_for_cycle p pivot u ≡ false) where
+    abbrev p' : Plain
+    p' = accepted p (p.cell.last + 1) (close way) (effect p (close way))
+
+    goes : plain_step p (sent (next_call p (close way))) ≡ (answer (effect p (close way)).0, p')
+    unfolding ◌when◌else◌
+    goes = next_goes p (close way) (cycle_tests ∙ rw (back, room) refl)
+
+    -- one unitig more, behind the others
+    closed_is : p'.closed ≡ p.closed ++ (filed way u ∷ [])
+    unfolding accepted effect close_effect
+    closed_is = rw is refl
+
+    here_is : get_or p'.closed (length p.closed) no_unitig ≡ filed way u
+    here_is = ap (λ (us : List Unitig). get_or us (length p.closed) no_unitig) closed_is ∙ get_or-append_seam p.closed (filed way u) [] no_unitig
+
+    one_more : length p.closed < length p'.closed
+    one_more = omega (arith, ap length closed_is, length-append p.closed (filed way u ∷ []))
+
+    sets_are : p'.cell.S ≡ p.cell.S
+    unfolding accepted effect
+    sets_are = close_sets p way p.cell.current
+
+    -- sent again, and another call under its number
+    told_again : (plain_step p' (sent (next_call p (close way)))).0 ≡ answer (effect p (close way)).0
+    unfolding plain_step plain_update sent verdict again equal_updates equal_ways accepted ◌when◌else◌
+    told_again =
+        let z : p.cell.last + 1 ≡ 0 → ⊥ = λ e. omega arith in
+        rw (ne_eqb _ _ z, eq-eqb (p.cell.last + 1) _ refl, eq-eqb pivot pivot refl)
+
+    told_other : (other : Way) → equal_ways way other ≡ false → (plain_step p' (sent (next_call p (close other)))).0 ≡ refusal 11
+    unfolding plain_step plain_update sent verdict again equal_updates accepted ◌when◌else◌
+    told_other other e =
+        let z : p.cell.last + 1 ≡ 0 → ⊥ = λ e. omega arith in
+        rw (ne_eqb _ _ z, eq-eqb (p.cell.last + 1) _ refl, e)
+
+    -- ---- the store over its buffers
+
+    abbrev s' : Store
+    s' = (store_step s b (next_call p (close way))).1
+
+    abbrev b' : Bufs
+    b' = (store_step s b (next_call p (close way))).2
+
+    abbrev place : ℕ
+    place = length p.closed
+
+    abbrev m : ℕ
+    m = length u.coords - 1
+
+    rep_after : Rep p' s' b'
+    rep_after = rw goes at (step_ok r (next_call p (close way))).rep
+
+    two : 2 ≤ length u.coords
+    two = ltb-false _ _ (or_none _ _ back).0
+
+    long : length (filed way u).coords ≡ m
+    unfolding acyclic way_of filed_count
+    long = sym (files way u (open_good r.cell.opened u is) back).count
+
+    narrow : (coord : ℕ) → NamedIn p'.cell coord → Narrow coord
+    narrow = named_narrow rep_after.cell
+
+    count : get_or b'.shared.table (2 * place + 1) 0 ≡ m
+    count = count_is narrow rep_after.shared place one_more ∙ ap (λ (v : Unitig). length v.coords) here_is ∙ long
+
+    turned : (v : ℕ) → v < m → get_or (coords_of p' place) v 0 ≡ get_or u.coords ((v + pivot) % m) 0
+    turned v h = ap (λ (w : Unitig). get_or w.coords v 0) here_is ∙ cycle_coords u pivot v (shorter_told u (open_good r.cell.opened u is) two).long h
+
+    no_more : (vertex : ℕ) (out : List ℕ) → m ≤ vertex → (store_step s' b' (showing place vertex out)).0 ≡ seen (refused 14) out
+    unfolding plain_step plain_show no_vertex sent out_of as_seen ◌when◌else◌
+    no_more vertex out h =
+        let k : m ≡ length (get_or p'.closed place no_unitig).coords = sym (ap (λ (v : Unitig). length v.coords) here_is ∙ long) in
+        let e : leb (length (get_or p'.closed place no_unitig).coords) vertex ≡ true = le-leb _ _ (omega (arith, h, k)) in
+        (step_ok rep_after (showing place vertex out)).same ∙ rw (or_right (leb (length p'.closed) place) _ e) refl
+
+    -- the runs in the file, and nothing behind them
+    merged_here : unitig_runs (get_or p'.closed place no_unitig) ≡ merged (coords_of p' place)
+    merged_here = ap unitig_runs here_is ∙ cycle_merged u pivot ∙ sym (ap (λ (v : Unitig). merged v.coords) here_is)
+
+    last_here : drop (suc place) p'.closed ≡ []
+    last_here = drop_of_length-le p'.closed {i = suc place} (omega (arith, ap length closed_is, length-append p.closed (filed way u ∷ [])))
+
+    runs_filed : runs_of s'.shared b'.shared place ≡ found (merged (coords_of p' place)) []
+    unfolding flat
+    runs_filed = runs_are narrow rep_after.shared place one_more ∙ ap₂ (λ (ws : List ℕ) (us : List Unitig). found ws (flat bytes_of us)) merged_here last_here
+
+    each_run : sharp m (merged (coords_of p' place)) ≡ true
+    each_run = ap₂ sharp (sym (ap (λ (v : Unitig). length v.coords) here_is ∙ long)) (sym merged_here) ∙ (good_here narrow rep_after.shared place one_more).is_sharp
+
+    module _ (v : ℕ) (h : v < m) where
+      abbrev ids : List ℕ
+      ids = set_named p.cell (get_or u.coords ((v + pivot) % m) 0)
+
+      ids_are : ids_at p' place v ≡ ids
+      unfolding ids_at coord_at
+      ids_are = ap₂ (λ (S : List (List ℕ)) (c : ℕ). get_or S (c / 256) []) sets_are (turned v h)
+
+      vertex_is : no_vertex p' place v ≡ false
+      unfolding no_vertex
+      vertex_is =
+          let l : v < length (coords_of p' place) = omega (arith, h, ap (λ (w : Unitig). length w.coords) here_is, long) in
+          or_false _ _ (lt-leb _ _ one_more) (lt-leb _ _ l)
+
+      shown_at : (out : List ℕ) → length ids ≤ length out → (store_step s' b' (showing place v out)).0 ≡ seen (done (length ids ∷ [])) (over ids out)
+      unfolding plain_step plain_show sent out_of as_seen ◌when◌else◌
+      shown_at out k = (step_ok rep_after (showing place v out)).same ∙ rw (vertex_is, ids_are, le-ltb _ _ k) refl
+
+    sent_again : (store_step s' b' (next_call p (close way))).0 ≡ (store_step s b (next_call p (close way))).0
+    sent_again =
+        (step_ok rep_after (next_call p (close way))).same ∙ ap (λ (x : Reply). as_seen x (out_of (next_call p (close way)))) (told_again ∙ sym (ap (λ (x : Reply × Plain). x.0) goes))
+        ∙ sym (step_ok r (next_call p (close way))).same
+
+    other_way : (other : Way) → equal_ways way other ≡ false → (store_step s' b' (next_call p (close other))).0 ≡ seen (refused 11) []
+    unfolding out_of as_seen
+    other_way other e = (step_ok rep_after (next_call p (close other))).same ∙ rw (told_other other e) refl
+
+    cycle_filed : CycleFiled u pivot p s b (plain_step p (sent (next_call p (close way)))).1 s' b'
+    cycle_filed =
+        rw goes
+        (record {
+          count = count;
+          no_more = no_more;
+          turned = turned;
+          shown = λ v out h k. shown_at v h out k;
+          runs = runs_filed;
+          each_run = each_run;
+          again = sent_again;
+          other_way = other_way;
+        })
+
+module _ {p : Plain} {s : Store} {b : Bufs} (r : Rep p s b) where
+  cycles : Cycles p s b
+  unfolding out_of
+  cycles =
+      record {
+        told = λ u pivot is. (step_ok r (next_call p (close (cycle pivot)))).same ∙ ap (λ (x : Reply). as_seen x []) (cycle_told r u pivot is);
+        filed = λ u pivot is back room. cycle_filed r u pivot is back room;
+      }
+
+module _ (N W : ℕ) (b : Bufs) (x : bad_limits N W ≡ false) (y : bad_lengths (lengths_of b) ≡ false) (calls : List LentCall) where
+  cycles_fresh : CyclesAfter N W b calls (left N W b x y calls)
+  cycles_fresh = cycles (runs_agree N W b x y calls).rep
+
+pub cycles_lem : CyclesStatement
+cycles_lem N W b b' s e calls =
+    let k = began N W b b' s e in
+    rw (k.state, k.bufs) (cycles_fresh N W b k.limits k.lengths calls)
