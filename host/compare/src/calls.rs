@@ -4,7 +4,7 @@
 use crate::random::Random;
 use model::MAX_VERTICES;
 use model::calls::{Call, Deed, Lengths, Way};
-use model::plain::Plain;
+use model::plain::{Plain, Unitig};
 use model::runs::{coordinate, offset, pack};
 
 /// What a list of calls is like: its start, how many calls it has, and how large they are.
@@ -160,20 +160,27 @@ impl Random {
             // A set is often filed while a unitig is open.
             (0..50, false) | (0..34, true) => self.set_of(plain.n),
             (50..92, false) | (34..78, true) => self.piece(plain, shape),
-            _ => {
-                let n = plain.open.as_ref().map_or(1, |open| open.coordinates.len());
-                Deed::Close(self.way(n as u32))
-            }
+            _ => Deed::Close(self.way(plain.open.as_ref())),
         }
     }
 
-    fn way(&mut self, n: u32) -> Way {
+    /// Mostly a cycle where the unitig walks back to its first vertex, and a line where it doesn't.
+    fn way(&mut self, open: Option<&Unitig>) -> Way {
+        let cycle = match open {
+            Some(open) if walks_back(open) => !self.rarely(4),
+            _ => self.rarely(6),
+        };
+        if !cycle {
+            return Way::Line;
+        }
+        let n = open.map_or(1, |open| open.coordinates.len()) as u32;
         let pivot = match self.below(8) {
-            0..3 => return Way::Line,
-            3 => 0,
-            4 => self.pick(&[n - 1, n, n + 1, u32::MAX]),
-            5 => self.word() as u32,
-            _ => self.below(u64::from(n)) as u32,
+            0 => 0,
+            // Around the counts with and without the last vertex.
+            1..4 => self.pick(&[n.saturating_sub(2), n - 1, n, n + 1, 2 * n - 1, u32::MAX]),
+            4 => self.word() as u32,
+            // Often different modulo these two.
+            _ => self.below(3 * u64::from(n)) as u32,
         };
         Way::Cycle { pivot }
     }
@@ -230,24 +237,44 @@ impl Random {
         let count = open.map_or(1, |open| open.coordinates.len()) as u32;
         let n = match self.below(4) {
             // What is left up to the most vertices there may be.
-            0 if shape.vertices == MAX_VERTICES => MAX_VERTICES - count + 1,
+            0 | 2 if shape.vertices == MAX_VERTICES => MAX_VERTICES - count + 1,
             1 => self.between(1, 3) as u32,
             _ => self.between(1, u64::from(shape.vertices)) as u32,
         };
+        let reverse = self.flip();
+        // Whether it brings the unitig back to its first coordinate, with a run of its own where it has two vertices.
+        let back = self.flip();
         let mut offsets = self.offsets(n, shape.runs);
+        if back && n > 1 {
+            offsets.push(self.last_run(n, reverse));
+            offsets.sort_unstable();
+        }
         offsets.dedup();
         let mut runs: Vec<u64> = offsets
             .iter()
             .map(|&at| pack(at, self.named(plain)))
             .collect();
-        let reverse = self.flip();
-        if let Some(&last) = open.and_then(|open| open.coordinates.last())
+        let end = runs.len() - 1;
+        let (first, last) = if reverse { (end, 0) } else { (0, end) };
+        if back {
+            let named = open.map_or(coordinate(runs[first]), |open| open.coordinates[0]);
+            runs[last] = pack(offset(runs[last]), named);
+        }
+        if let Some(&named) = open.and_then(|open| open.coordinates.last())
             && !self.rarely(12)
         {
-            let place = if reverse { runs.len() - 1 } else { 0 };
-            runs[place] = pack(offset(runs[place]), last);
+            runs[first] = pack(offset(runs[first]), named);
         }
         self.spoiled_piece(n, count, reverse, runs, plain)
+    }
+
+    /// An offset by which the last run of a piece, as joined, is not its first one: often a run of one vertex. `n` is above 1.
+    fn last_run(&mut self, n: u32, reverse: bool) -> u32 {
+        match (self.flip(), reverse) {
+            (true, false) => n - 1,
+            (true, true) => 1,
+            _ => self.between(1, u64::from(n) - 1) as u32,
+        }
     }
 
     fn spoiled_piece(
@@ -294,7 +321,7 @@ impl Random {
                 2 => ids.push(plain.n),
                 3 => ids.reverse(),
                 4 => ids.clear(),
-                _ => return Deed::Close(self.way(1)),
+                _ => return Deed::Close(self.way(plain.open.as_ref())),
             },
             Deed::Join { n, reverse, runs } => match self.below(6) {
                 0 => *n = n.wrapping_add(1),
@@ -307,12 +334,13 @@ impl Random {
                 _ => return self.set_of(plain.n),
             },
             Deed::Close(way) => {
+                // Of a cycle, without the vertex that was dropped.
                 let n = plain.closed.last().map_or(1, |last| last.coordinates.len()) as u32;
                 *way = match *way {
                     Way::Line => Way::Cycle { pivot: 0 },
                     Way::Cycle { .. } if self.rarely(4) => Way::Line,
                     Way::Cycle { pivot } => Way::Cycle {
-                        pivot: pivot.wrapping_add(self.pick(&[1, n])),
+                        pivot: pivot.wrapping_add(self.pick(&[1, n, n + 1])),
                     },
                 }
             }
@@ -358,4 +386,9 @@ impl Random {
             room,
         }
     }
+}
+
+fn walks_back(unitig: &Unitig) -> bool {
+    let all = &unitig.coordinates;
+    all.len() > 1 && all.first() == all.last()
 }

@@ -6,7 +6,7 @@ use model::runs::{coordinate, offset};
 use model::store::{Buffers, Current, State};
 
 /// What the program says of each refusal. None has the number 12.
-const REASONS: [(u32, &str); 14] = [
+const REASONS: [(u32, &str); 15] = [
     (1, "colour count or worker outside its limits"),
     (
         2,
@@ -27,6 +27,7 @@ const REASONS: [(u32, &str); 14] = [
     (13, "no unitig is open"),
     (14, "no such closed unitig or vertex"),
     (15, "state or buffers were altered"),
+    (16, "open unitig does not walk back to its first vertex"),
 ];
 
 fn refused(number: u32) -> String {

@@ -1,7 +1,7 @@
 //! The store's calls, their answers, and the clauses by which they are turned down: what both stores, [`crate::plain`] and
 //! [`crate::store`], are asked and answer.
 
-/// How a unitig is closed.
+/// How a unitig is closed. A cycle has its first vertex again as its last one, which is dropped before the others are turned.
 #[derive(Debug, Clone, Copy, PartialEq, Eq)]
 pub enum Way {
     Line,
@@ -102,6 +102,8 @@ pub enum Clause {
     NoUnitig,
     NoVertex,
     Altered,
+    OneVertex,
+    OtherEnd,
 }
 
 impl Clause {
@@ -130,6 +132,7 @@ impl Clause {
             Clause::NoneOpen => 13,
             Clause::NoUnitig | Clause::NoVertex => 14,
             Clause::Altered => 15,
+            Clause::OneVertex | Clause::OtherEnd => 16,
         }
     }
 }

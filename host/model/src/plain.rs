@@ -49,6 +49,24 @@ impl Unitig {
             .extend(piece.starts[1..].iter().map(|&start| start + shift));
     }
 
+    /// 16: whether its last vertex can be its first one again.
+    fn limit_cycle(&self) -> Result<(), Clause> {
+        if self.coordinates.len() < 2 {
+            return Err(Clause::OneVertex);
+        }
+        if self.coordinates.first() != self.coordinates.last() {
+            return Err(Clause::OtherEnd);
+        }
+        Ok(())
+    }
+
+    /// Without the last vertex, and without the start of a run that had no other.
+    fn drop_last(&mut self) {
+        self.coordinates.pop();
+        let n = self.coordinates.len() as u32;
+        self.starts.retain(|&start| start < n);
+    }
+
     /// Turned left; a run starts at 0 and at each vertex unlike the one before.
     fn turn(&mut self, pivot: u32) {
         let n = self.coordinates.len();
@@ -221,6 +239,9 @@ impl Plain {
         };
         let mut unitig = open.clone();
         if let Way::Cycle { pivot } = way {
+            // A cycle is sent until its first vertex comes round again, which counts once.
+            unitig.limit_cycle()?;
+            unitig.drop_last();
             unitig.turn(pivot);
         }
         let used: u64 = self.closed.iter().map(Unitig::bytes).sum();

@@ -101,6 +101,17 @@ fn limit_start(n: u32, worker: u32, lengths: Lengths) -> Result<(), Clause> {
     Ok(())
 }
 
+/// 16, of sharp runs: the first one has the first vertex, the last one the last vertex.
+fn limit_cycle(open: &[u64], count: u32) -> Result<(), Clause> {
+    if count < 2 {
+        return Err(Clause::OneVertex);
+    }
+    if open.first().map(|&run| coordinate(run)) != open.last().map(|&run| coordinate(run)) {
+        return Err(Clause::OtherEnd);
+    }
+    Ok(())
+}
+
 impl State {
     pub fn start(n: u32, worker: u32, buffers: &mut Buffers) -> Result<State, Clause> {
         let lengths = buffers.lengths();
@@ -344,10 +355,14 @@ impl State {
             return Err(Clause::NoneOpen);
         };
         let open = self.open_runs(count, buffers)?;
-        let filed = match way {
-            Way::Line => write_runs(open),
+        // What is filed, and of how many vertices.
+        let (filed, vertices) = match way {
+            Way::Line => (write_runs(open), count),
             Way::Cycle { pivot } => {
-                rotate_runs(open, count, pivot, false).and_then(|runs| write_runs(&runs))
+                limit_cycle(open, count)?;
+                // The runs are steady for one vertex fewer too, and turning leaves out a run without a vertex.
+                let turned = rotate_runs(open, count - 1, pivot, false);
+                (turned.and_then(|runs| write_runs(&runs)), count - 1)
             }
         };
         let bytes = match filed {
@@ -362,7 +377,7 @@ impl State {
         let Some(row) = buffers.table.get_mut(row..row + 2) else {
             return Err(Clause::Table);
         };
-        row.copy_from_slice(&[self.used.runs, u64::from(count)]);
+        row.copy_from_slice(&[self.used.runs, u64::from(vertices)]);
         buffers.runs[self.used.runs as usize..end as usize].copy_from_slice(&bytes);
         Ok(State {
             used: Used {

@@ -28,6 +28,10 @@ fn close(number: u32, way: Way) -> Call {
     }
 }
 
+fn cycle(pivot: u32) -> Way {
+    Way::Cycle { pivot }
+}
+
 fn show(unitig: u32, vertex: u32, room: usize) -> Call {
     Call::Show {
         unitig,
@@ -121,13 +125,122 @@ fn worked_case() {
 #[test]
 fn cycles_are_turned_and_merged() {
     let mut both = with_sets(LENGTHS);
-    both.answers(join(3, 4, false, &[(0, 2), (1, 258)]), 4);
-    both.answers(close(4, Way::Cycle { pivot: 6 }), 0);
+    both.answers(join(3, 5, false, &[(0, 2), (1, 258), (4, 2)]), 5);
+    both.answers(close(4, cycle(6)), 0);
     assert_eq!(both.plain.closed[0].coordinates, [258, 258, 2, 258]);
     assert_eq!(both.plain.closed[0].starts, [0, 2, 3]);
     assert_eq!(both.state.used.runs, 25);
-    both.refuses(close(4, Way::Cycle { pivot: 2 }), 11);
-    both.answers(close(4, Way::Cycle { pivot: 6 }), 0);
+    // The pivot is compared as sent, neither modulo the filed count nor modulo the one before.
+    for pivot in [2, 10, 1, 11, 5, 7] {
+        both.refuses(close(4, cycle(pivot)), 11);
+    }
+    both.refuses(close(4, Way::Line), 11);
+    both.answers(close(4, cycle(6)), 0);
+}
+
+/// Both stores hold one closed unitig, these runs of so many vertices.
+fn filed(both: &Both, runs: &[(u32, u64)], vertices: u64) {
+    let unitig = &both.plain.closed[0];
+    let started: Vec<(u32, u64)> = unitig
+        .starts
+        .iter()
+        .map(|&at| (at, unitig.coordinates[at as usize]))
+        .collect();
+    assert_eq!(started, runs);
+    assert_eq!(unitig.coordinates.len() as u64, vertices);
+    let words: Vec<u64> = runs.iter().map(|&(at, named)| pack(at, named)).collect();
+    let len = both.state.used.runs;
+    assert_eq!(model::read_runs(&both.buffers.runs), Ok((words, len)));
+    assert_eq!(both.buffers.table[..2], [0, vertices]);
+    assert!(both.buffers.runs[len as usize..].iter().all(|&b| b == 165));
+    assert!(both.buffers.table[2..].iter().all(|&word| word == 165));
+}
+
+/// The first vertex, sent again as the last one, counts once; the pivot is taken modulo what is left.
+#[test]
+fn cycles_drop_the_vertex_that_comes_again() {
+    type Runs<'a> = &'a [(u32, u64)];
+    let emptied: Runs = &[(0, 2), (2, 258), (4, 2)];
+    let longer: Runs = &[(0, 2), (1, 258), (3, 2)];
+    let cases: [(Runs, u32, Runs); 10] = [
+        (emptied, 0, &[(0, 2), (2, 258)]),
+        (emptied, 1, &[(0, 2), (1, 258), (3, 2)]),
+        (emptied, 3, &[(0, 258), (1, 2), (3, 258)]),
+        (emptied, 4, &[(0, 2), (2, 258)]),
+        (emptied, 5, &[(0, 2), (1, 258), (3, 2)]),
+        (emptied, u32::MAX, &[(0, 258), (1, 2), (3, 258)]),
+        // A last run of two vertices keeps one.
+        (longer, 0, &[(0, 2), (1, 258), (3, 2)]),
+        (longer, 1, &[(0, 258), (2, 2)]),
+        (longer, 3, &[(0, 2), (2, 258)]),
+        (longer, 4, &[(0, 2), (1, 258), (3, 2)]),
+    ];
+    for (sent, pivot, runs) in cases {
+        let mut both = with_sets(LENGTHS);
+        both.answers(join(3, 5, false, sent), 5);
+        let open = both.buffers.open.clone();
+        both.answers(close(4, cycle(pivot)), 0);
+        filed(&both, runs, 4);
+        // Nothing is turned in place.
+        assert_eq!(both.buffers.open, open);
+        both.refuses(show(0, 4, 8), 14);
+        both.answers(close(4, cycle(pivot)), 0);
+    }
+    // As a line it is filed whole.
+    let mut both = with_sets(LENGTHS);
+    both.answers(join(3, 5, false, emptied), 5);
+    both.answers(close(4, Way::Line), 0);
+    filed(&both, emptied, 5);
+}
+
+/// The unitig and not its last piece walks back.
+#[test]
+fn cycles_of_several_pieces() {
+    let mut both = with_sets(LENGTHS);
+    both.answers(join(3, 2, false, &[(0, 2), (1, 258)]), 2);
+    both.refuses(close(4, cycle(0)), 16);
+    both.answers(join(4, 2, false, &[(0, 258)]), 3);
+    both.refuses(close(5, cycle(0)), 16);
+    both.answers(join(5, 2, true, &[(0, 2), (1, 258)]), 4);
+    both.answers(close(6, cycle(4)), 0);
+    filed(&both, &[(0, 258), (2, 2)], 3);
+    both.shows(show(0, 2, 1), &[5]);
+    both.refuses(show(0, 3, 1), 14);
+}
+
+/// Two vertices of one coordinate, in one run or in two, leave one vertex.
+#[test]
+fn the_smallest_cycle() {
+    for sent in [&[(0, 258)][..], &[(0, 258), (1, 258)]] {
+        for pivot in [0, 1, 2, u32::MAX] {
+            let mut both = with_sets(LENGTHS);
+            both.answers(join(3, 2, false, sent), 2);
+            both.answers(close(4, cycle(pivot)), 0);
+            filed(&both, &[(0, 258)], 1);
+            both.shows(show(0, 0, 2), &[0, 7]);
+            both.refuses(show(0, 1, 2), 14);
+        }
+    }
+}
+
+/// They stay open, and may be closed as lines.
+#[test]
+fn unitigs_that_do_not_walk_back_are_no_cycles() {
+    let cases: [(u32, &[(u32, u64)]); 4] = [
+        (1, &[(0, 2)]),
+        (2, &[(0, 2), (1, 258)]),
+        (5, &[(0, 2), (2, 258)]),
+        (5, &[(0, 2), (2, 258), (3, 2), (4, 258)]),
+    ];
+    for (n, runs) in cases {
+        let mut both = with_sets(LENGTHS);
+        both.answers(join(3, n, false, runs), u64::from(n));
+        for pivot in [0, 1, n, u32::MAX] {
+            both.refuses(close(4, cycle(pivot)), 16);
+        }
+        both.answers(close(4, Way::Line), 0);
+        filed(&both, runs, u64::from(n));
+    }
 }
 
 /// Each call is wrong in all that follows its refusal, and mended one thing at a time.
@@ -278,28 +391,43 @@ fn order_of_close() {
     both.refuses(close(0, Way::Line), 10);
     both.refuses(close(2, Way::Line), 11);
     both.refuses(close(3, Way::Line), 13);
+    both.refuses(close(3, cycle(0)), 13);
     both.answers(join(3, 1, false, &[(0, 2)]), 1);
     both.refuses(close(3, Way::Line), 11);
     both.refuses(close(4, Way::Line), 3);
+    both.refuses(close(0, cycle(0)), 10);
+    both.refuses(close(5, cycle(0)), 10);
+    both.refuses(close(3, cycle(0)), 11);
+    both.refuses(close(4, cycle(0)), 16);
+    both.answers(join(4, 2, false, &[(0, 2), (1, 258)]), 2);
+    both.refuses(close(5, cycle(0)), 16);
+    both.answers(join(5, 2, false, &[(0, 258), (1, 2)]), 3);
+    both.refuses(close(6, cycle(0)), 3);
 }
 
-/// A cycle's space is that of its turned and merged runs, which may be one more, or fewer.
+/// A cycle's space is that of its runs without the last vertex, turned and merged: as many as the open ones, or fewer.
 #[test]
 fn close_needs_bytes_and_a_row() {
     for (runs, table, way, fits) in [
-        (17, 2, Way::Line, true),
-        (16, 2, Way::Line, false),
-        (17, 1, Way::Line, false),
-        (25, 2, Way::Cycle { pivot: 2 }, true),
-        (24, 2, Way::Cycle { pivot: 2 }, false),
-        (17, 2, Way::Cycle { pivot: 1 }, true),
+        (25, 2, Way::Line, true),
+        (24, 2, Way::Line, false),
+        (25, 1, Way::Line, false),
+        (25, 2, cycle(2), true),
+        (24, 2, cycle(2), false),
+        (25, 1, cycle(2), false),
+        (17, 2, cycle(1), true),
+        (16, 2, cycle(1), false),
+        // Not turned: only the run that the last vertex had for itself is gone.
+        (17, 2, cycle(0), true),
+        (16, 2, cycle(0), false),
+        (17, 2, Way::Line, false),
     ] {
         let mut both = with_sets(Lengths {
             runs,
             table,
             ..LENGTHS
         });
-        both.answers(join(3, 4, false, &[(0, 2), (1, 258)]), 4);
+        both.answers(join(3, 5, false, &[(0, 2), (1, 258), (4, 2)]), 5);
         if fits {
             both.answers(close(4, way), 0);
         } else {
@@ -391,6 +519,7 @@ fn altered_state_comes_first() {
             add(0, &[9]),
             join(0, 0, false, &[]),
             close(0, Way::Line),
+            close(0, cycle(0)),
             show(9, 9, 0),
         ] {
             assert_eq!(altered(&both, call, alter), 15);
@@ -429,11 +558,12 @@ fn altered_repeats() {
 fn altered_open_runs() {
     let mut both = with_sets(LENGTHS);
     both.answers(join(3, 3, false, &[(0, 2), (2, 258)]), 3);
-    let alterations: [fn(&mut State, &mut Buffers); 4] = [
+    let alterations: [fn(&mut State, &mut Buffers); 5] = [
         |_, b| b.open[0] += 1,
         |_, b| b.open[1] += 1,
         |s, _| s.used.open = 0,
         |s, _| s.current = Current::Open(2),
+        |s, _| s.current = Current::Open(1),
     ];
     for alter in alterations {
         // 5 stands between 9 and 8, and before 3.
@@ -442,7 +572,10 @@ fn altered_open_runs() {
         let apart = join(4, 2, false, &[(0, 2), (1, 258)]);
         assert_eq!(altered(&both, apart, alter), 5);
         assert_eq!(altered(&both, close(4, Way::Line), alter), 5);
+        // Before 16, which this unitig has as a cycle.
+        assert_eq!(altered(&both, close(4, cycle(0)), alter), 5);
     }
+    both.refuses(close(4, cycle(0)), 16);
     // Without an open unitig they aren't looked at.
     both.answers(close(4, Way::Line), 0);
     both.buffers.open.fill(u64::MAX);

@@ -21,11 +21,12 @@ pub enum Refusal {
     Unopened = 13,
     Place = 14,
     Altered = 15,
+    Acyclic = 16,
 }
 
 impl Refusal {
     /// Every refusal, in the order of their numbers.
-    pub const ALL: [Refusal; 14] = [
+    pub const ALL: [Refusal; 15] = [
         Refusal::Colors,
         Refusal::Ids,
         Refusal::Space,
@@ -40,6 +41,7 @@ impl Refusal {
         Refusal::Unopened,
         Refusal::Place,
         Refusal::Altered,
+        Refusal::Acyclic,
     ];
 
     /// The number that the C functions answer.
@@ -47,7 +49,7 @@ impl Refusal {
         self as u32
     }
 
-    /// The refusal of a number. 0 is success, and has none; nor have 12 and numbers above 15.
+    /// The refusal of a number. 0 is success, and has none; nor have 12 and numbers above 16.
     pub fn from_number(number: u32) -> Option<Refusal> {
         let mut all = Refusal::ALL.into_iter();
         all.find(|refusal| refusal.number() == number)
@@ -74,6 +76,7 @@ impl Refusal {
             Refusal::Unopened => "no unitig is open",
             Refusal::Place => "there is no such closed unitig, or no such vertex of it",
             Refusal::Altered => "the state or the buffers are not those that the calls left",
+            Refusal::Acyclic => "the open unitig does not walk back to its first vertex",
         }
     }
 }

@@ -232,11 +232,11 @@ fn run_bytes() {
 
 #[test]
 fn refusals_have_their_numbers_and_texts() {
-    for none in [0, 12, 16, u32::MAX] {
+    for none in [0, 12, 17, u32::MAX] {
         assert_eq!(Refusal::from_number(none), None);
     }
     let numbers = Refusal::ALL.map(Refusal::number);
-    assert_eq!(numbers, [1, 2, 3, 4, 5, 6, 7, 8, 9, 10, 11, 13, 14, 15]);
+    assert_eq!(numbers, [1, 2, 3, 4, 5, 6, 7, 8, 9, 10, 11, 13, 14, 15, 16]);
     for refusal in Refusal::ALL {
         assert_eq!(Refusal::from_number(refusal.number()), Some(refusal));
         assert!(!refusal.text().is_empty());

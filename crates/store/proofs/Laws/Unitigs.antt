@@ -224,14 +224,21 @@ module _ {names : ℕ → Type 0} (u : Unitig) (g : Good names u) where
       let l : suc less ≡ length u.coords = omega (arith, g.vertices) in
       colours_shorter less (unitig_runs u) list ∙ ap (take less) (ap (λ (m : ℕ). colours m (unitig_runs u)) l ∙ g.tell)
 
+  cut_colours_are : colours less (cut_to less (unitig_runs u)) ≡ take less u.coords
+  unfolding without_last
+  cut_colours_are = cut_colours less (unitig_runs u) list ∙ but_last
+
+  cut_is : without_last u ≡ expanded less (cut_to less (unitig_runs u))
+  unfolding without_last expanded
+  cut_is =
+      ap₂ (λ (x y : List ℕ). unitig x y) (sym cut_colours_are)
+      (ap (λ (ss : List ℕ). filter (λ (s : ℕ). ltb s less) ss) (sym g.offsets) ∙ sym (starts_cut less (unitig_runs u)))
+
   -- without its last vertex it is told by its runs, but for one that would have no vertex
   pub shorter_told : 2 ≤ length u.coords → Told names less (cut_to less (unitig_runs u)) (without_last u)
-  unfolding without_last expanded
   shorter_told two =
-      let cs : colours less (cut_to less (unitig_runs u)) ≡ take less u.coords = cut_colours less (unitig_runs u) list ∙ but_last in
-      let ss : starts (cut_to less (unitig_runs u)) ≡ filter (λ (s : ℕ). ltb s less) u.starts = starts_cut less (unitig_runs u) ∙ ap (λ (ss : List ℕ). filter (λ (s : ℕ). ltb s less) ss) g.offsets in
-      rw (← cs, ← ss)
-      (told names less (cut_to less (unitig_runs u)) (omega (arith, g.few)) (sharp_cut less (unitig_runs u) list (omega (arith, two))) (rw cs (all_take names less u.coords g.named)))
+      rw cut_is
+      (told names less (cut_to less (unitig_runs u)) (omega (arith, g.few)) (sharp_cut less (unitig_runs u) list (omega (arith, two))) (rw cut_colours_are (all_take names less u.coords g.named)))
 
 pub turn_good : {names : ℕ → Type 0} (pivot : ℕ) (u : Unitig) → Good names u → Good names (turned_by pivot u) × (length (turned_by pivot u).coords ≡ length u.coords)
 unfolding turned_by merged

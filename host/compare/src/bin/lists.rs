@@ -3,10 +3,12 @@
 //! built. Every line that a program answers is compared with the model's. SEED begins the lists (1): the same two numbers repeat
 //! the same run. The stores of one colour count are then compared, each with each: the record bytes of the one are the beginning
 //! of the other's exactly when its accepted sets are. Exits with 1 where an answer or such a pair differs; where a refusal that calls
-//! can reach, a bound, or what can become of an empty set, was not met; or where a set was filed in fewer than a third of the unitigs
-//! while they were open, or no piece named one, no show gave one, or no join was sent again after one: as with far fewer calls.
+//! can reach, a bound, or what can become of an empty set, was not met; where a set was filed in fewer than a third of the unitigs
+//! while they were open, or no piece named one, no show gave one, or no join was sent again after one; or where fewer than a fifth
+//! of the closed unitigs are cycles, or a kind of cycle was not met: as with far fewer calls.
 
 use compare::commands::{Line, lines_of};
+use compare::cycles::CYCLES;
 use compare::lists::{Crossed, History, List, REACHED, Told};
 use compare::random::Random;
 use compare::run::grouped;
@@ -53,7 +55,7 @@ fn reachable() -> Vec<(&'static str, Clause)> {
     more("add", &[NotAscending, NotBelow, RecordFile, Index]);
     more("join", &[NoVertices, ManyVertices, NotSharp, OtherWorker]);
     more("join", &[NoSet, Junction, OpenRuns, HeldPiece]);
-    more("close", &[NoneOpen, RunFile, Table]);
+    more("close", &[NoneOpen, OneVertex, OtherEnd, RunFile, Table]);
     more("show", &[NoUnitig, NoVertex, Output]);
     all
 }
@@ -264,6 +266,26 @@ fn print_counts(counts: &Counts) {
     }
 }
 
+/// How often each of [`CYCLES`] was met; how many failures that is.
+fn print_cycles(cycles: &[u64; CYCLES.len()]) -> u64 {
+    let met = || CYCLES.iter().zip(cycles);
+    let counts: Vec<String> = met()
+        .map(|(name, &count)| format!("{name} {}", grouped(count)))
+        .collect();
+    println!("unitigs closed: {}", counts.join(", "));
+    let mut failed = 0;
+    for (name, _) in met().filter(|(_, count)| **count == 0) {
+        println!("FAILED: no {name}");
+        failed += 1;
+    }
+    let [lines, closed, ..] = cycles;
+    if 5 * closed < lines + closed {
+        println!("FAILED: fewer than a fifth of the closed unitigs are cycles");
+        failed += 1;
+    }
+    failed
+}
+
 fn main() {
     let numbers: Vec<String> = std::env::args().skip(1).collect();
     let number = |place: usize, usual: u64| match numbers.get(place) {
@@ -284,6 +306,7 @@ fn main() {
     let mut reached = [0; REACHED.len()];
     let (mut adds, mut empty) = (0, 0);
     let mut crossed = Crossed::default();
+    let mut cycles = [0; CYCLES.len()];
     let mut histories = Vec::new();
     while made < calls || lists < LARGEST {
         let shape = if lists < LARGEST {
@@ -306,6 +329,9 @@ fn main() {
             empty += u64::from(ids.is_empty());
         }
         crossed.add(&list.crossed());
+        for (count, here) in cycles.iter_mut().zip(list.cycles()) {
+            *count += here;
+        }
         histories.extend(list.history());
         let counted = counted_of(&list);
         let lines = lines_of(&list);
@@ -381,6 +407,7 @@ fn main() {
         println!("FAILED: too few sets filed while a unitig is open, or not met again");
         failed += 1;
     }
+    failed += print_cycles(&cycles);
     println!("lists that reach a bound, or hold a call on an empty set:");
     for (name, &count) in REACHED.iter().zip(&reached) {
         println!("  {name}: {}", grouped(count));
