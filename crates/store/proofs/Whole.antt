@@ -42,13 +42,12 @@ pub record Whole (M : Type 1) : Type 2 where
   pub empty_set : EmptySetStatement
   -- sets filed while a unitig is open: their add, their record, and what joins name then
   pub while_open : WhileOpenStatement
-  -- and no call is told 12
-  pub never_12 : NeverTwelveStatement
-  -- cycles, whose last vertex is their first: their close, what is filed and shown; and that 16 is told of nothing else
+  -- cycles, whose last vertex is their first: their close, what is filed and shown
   pub cycles : CyclesStatement
-  pub only_cycles : OnlyCyclesStatement
-  -- each call is told a refusal that the specification names for it, or none
+  -- a call that is refused is told a number that the specification names for it, and alters nothing; so that none is told 12, and a close as a cycle alone 16
   pub refusals : RefusalsStatement
+  pub never_12 : NeverTwelveStatement
+  pub only_cycles : OnlyCyclesStatement
 
 pub whole : {M : Type 1} → Whole M
 whole =
@@ -64,8 +63,8 @@ whole =
       stores = stores_one_history;
       empty_set = empty_set_lem;
       while_open = while_open_lem;
-      never_12 = never_12;
       cycles = cycles_lem;
-      only_cycles = only_cycles;
       refusals = refusals;
+      never_12 = never_12;
+      only_cycles = only_cycles;
     }

@@ -216,6 +216,10 @@ join_tests c n reversed piece =
     refuse 3 when ltb c.lengths.opened (length (joined c.current (piece_of n reversed piece)).starts) || ltb c.lengths.held (length piece) else
     accept
 
+-- its run bytes or its two table numbers don't fit behind those of the closed ones; it is as it is filed
+abbrev pub no_space_for_unitig : List Unitig → SharedLengths → Unitig → Bool
+no_space_for_unitig closed l u = ltb l.runs (length (closed_bytes closed) + length (bytes_of u)) || ltb l.table (2 * length closed + 2)
+
 unfoldable pub close_tests : List Unitig → SharedLengths → Way → Option Unitig → Verdict
 -- 13, none open
 close_tests closed l way none = refuse 13
@@ -223,7 +227,7 @@ close_tests closed l way (some u) =
     -- 16, a cycle that doesn't walk back to its first vertex
     refuse 16 when acyclic way u else
     -- 3, its run bytes or its two table numbers don't fit
-    refuse 3 when ltb l.runs (length (closed_bytes closed) + length (bytes_of (filed way u))) || ltb l.table (2 * length closed + 2) else
+    refuse 3 when no_space_for_unitig closed l (filed way u) else
     accept
 
 unfoldable pub tests : Plain → Update → Verdict
@@ -315,15 +319,18 @@ plain_update accept p i u = (answer (effect p u).0, accepted p i u (effect p u))
 abbrev pub no_unitig : Unitig
 no_unitig = record { coords = []; starts = [] }
 
--- the coordinate of a vertex of a closed unitig, and the ids of the set that a coordinate names
+-- the coordinates of a closed unitig, that of a vertex, and the ids of the set that it names
+abbrev pub coords_of : Plain → ℕ → List ℕ
+coords_of p unitig = (get_or p.closed unitig no_unitig).coords
+
 unfoldable pub coord_at : Plain → ℕ → ℕ → ℕ
-coord_at p unitig vertex = get_or (get_or p.closed unitig no_unitig).coords vertex 0
+coord_at p unitig vertex = get_or (coords_of p unitig) vertex 0
 
 unfoldable pub ids_at : Plain → ℕ → ℕ → List ℕ
 ids_at p unitig vertex = get_or p.cell.S (coord_at p unitig vertex / 256) []
 
 unfoldable pub no_vertex : Plain → ℕ → ℕ → Bool
-no_vertex p unitig vertex = leb (length p.closed) unitig || leb (length (get_or p.closed unitig no_unitig).coords) vertex
+no_vertex p unitig vertex = leb (length p.closed) unitig || leb (length (coords_of p unitig)) vertex
 
 unfoldable pub plain_show : Plain → ℕ → ℕ → ℕ → Reply
 plain_show p unitig vertex room =

@@ -29,7 +29,7 @@ impl Way {
 }
 
 impl OpenRuns<'_> {
-    // Whether the walk does not come back to its first vertex, as that of a cycle has to.
+    // Whether it is to be a cycle and does not come back to its first vertex: never of a line.
     #[tactic(auto, unfolding(crate::specs::Close::acyclic_runs))]
     fn is_acyclic(self, way: Way, n: u32) -> bool
         ensures { result ≡ acyclic_runs way n self.entry.runs.now }
@@ -44,7 +44,7 @@ impl OpenRuns<'_> {
         }
     }
 
-    // Refusal 13, none open; 5, open runs not sharp; 16, no cycle; 3, no space in the table.
+    // Refusal 13, none open; 5, open runs not sharp; 16, a cycle that does not come back; 3, no space in the table.
     #[tactic(auto, using(base::proofs::Tests::tests), unfolding(crate::specs::Inside::Closing::table_test, crate::specs::Close::close_open))]
     fn close_test(self, shared: Shared, way: Way) -> Result<(), Refusal>
         ensures { result ≡ table_test self.entry.cell shared way self.entry.runs.now }

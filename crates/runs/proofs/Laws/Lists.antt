@@ -6,9 +6,9 @@ use native.Mathlib.Omega.{arith}
 use native.Mathlib.Nat.{add-zero}
 use native.Mathlib.Numerals.{add-one}
 use native.Mathlib.Decide.{dec_lt}
-use Rattle.std.proofs.Math.Nat.{add-mod-mod, add-mod_left, mod-eq_of_lt, mod-lt}
 use lib.ListN.{length, take, drop, get_or, set, length-set, take-append-drop, replicate, length-append, length-drop, get_or-append}
 use lib.Seq.{drop-cons, get_or-append-add, get_or-drop, get_or-take, length-take-le, take-suc, take-suc-set, drop-set-lt, drop-drop, take_all}
+use Rattle.std.proofs.Math.Nat.{add-mod-mod, add-mod_left, add-mod_right, mod-add-mod, mod-eq_of_lt, mod-lt}
 use Rattle.base.specs.Parts.{over}
 use Rattle.base.proofs.All.{All, all_append, all_take, all_drop}
 
@@ -75,6 +75,18 @@ turned_at {A} pivot xs z v h = go (dec_lt (v + p) n)
         let k : v - (n - p) < n = omega (arith, h, low) in
         let e : v + p ≡ n + (v - (n - p)) = omega (arith, a, low) in
         turn_back p xs z (omega (arith, low)) v (omega (arith, a, low)) h ∙ ap (λ (k : ℕ). get_or xs k z) (sym (mod-eq_of_lt k) ∙ sym (add-mod_left n (v - (n - p))) ∙ ap (λ (j : ℕ). j % n) (sym e) ∙ same)
+
+-- and each place is some place turned
+pub turned_onto : (pivot n w : ℕ) → w < n → (v : ℕ) × (v < n) × ((v + pivot) % n ≡ w)
+turned_onto pivot n w h =
+    let some : 0 < n = omega arith in
+    let low : pivot % n < n = mod-lt pivot some in
+    let e : w + (n - pivot % n) + pivot % n ≡ w + n = omega (arith, low) in
+    (
+      (w + (n - pivot % n)) % n,
+      mod-lt (w + (n - pivot % n)) some,
+      mod-add-mod (w + (n - pivot % n)) n pivot ∙ sym (add-mod-mod (w + (n - pivot % n)) pivot n) ∙ ap (λ (k : ℕ). k % n) e ∙ add-mod_right w n ∙ mod-eq_of_lt h,
+    )
 
 pub all_turn : {A : Type 0} (P : A → Type 0) (k : ℕ) (xs : List A) → All P xs → All P (drop k xs ++ take k xs)
 all_turn P k xs a = all_append P (drop k xs) (take k xs) (all_drop P k xs a) (all_take P k xs a)

@@ -41,9 +41,11 @@ asked =
     ∷ reverse_into (pack 0 5 ∷ pack 4 5 ∷ pack 4 7 ∷ []) 4 three
     ∷ reverse_into first 0 three
     ∷ reverse_in_place first 10
-    -- rotate: room for the merged list is enough; no vertices, no runs
+    -- rotate: room for the merged list is enough; a run at the vertex count has no vertex and is not there; no vertices, no runs
     ∷ rotate_into (pack 0 5 ∷ pack 4 5 ∷ []) 10 4 false one
     ∷ rotate_into first 10 2 false one
+    ∷ rotate_into (pack 0 5 ∷ pack 1 7 ∷ []) 1 0 false one
+    ∷ rotate_into (pack 0 5 ∷ pack 1 7 ∷ []) 1 0 true one
     ∷ rotate_into (pack 0 5 ∷ pack 0 7 ∷ []) 0 3 false []
     ∷ rotate_into [] 10 3 false []
     ∷ rotate_into first 10 3 true three
@@ -73,6 +75,8 @@ answered =
     ∷ (done (2 ∷ []), pack 0 7 ∷ pack 6 5 ∷ [])
     ∷ (done (1 ∷ []), one)
     ∷ (refused 3, one)
+    ∷ (done (1 ∷ []), one)
+    ∷ (done (1 ∷ []), one)
     ∷ (done (0 ∷ []), [])
     ∷ (done (0 ∷ []), [])
     ∷ (done (3 ∷ []), pack 0 7 ∷ pack 3 5 ∷ pack 7 7 ∷ [])

@@ -1,13 +1,13 @@
 -- A sharp list without its last vertex: what it colours, and that rotate drops a run that this leaves without a vertex.
 use Prim.Native.Nat.{ℕ, zero, suc, ◌+◌, ◌-◌, ◌%◌, ◌≤◌, ◌<◌}
-use mathlib.Core.Path.{◌≡◌, refl, sym, ap, ◌∙◌, subst}
+use mathlib.Core.Path.{ap, refl, subst, sym, ◌∙◌, ◌≡◌}
 use mathlib.Core.Bool.{Bool, true, false}
 use mathlib.Core.List.{List, [], ◌∷◌, ◌++◌, append-nil, reverse}
 use native.Mathlib.Omega.{arith}
-use borrow.Author.Tests.{eqb-true, le-leb, lt-ltb, ltb-false, ltb-true}
 use lib.Dec.{ltb}
-use lib.ListN.{replicate, take, length-replicate}
+use lib.ListN.{length, length-replicate, replicate, take}
 use lib.Seq.{take-append-add}
+use borrow.Author.Tests.{eqb-true, le-leb, lt-ltb, ltb-false, ltb-true}
 use Rattle.std.specs.Prelude.{cond, filter}
 use Rattle.base.proofs.Bools.{and_both, and_true, false_true}
 use Rattle.runs.specs.Words.{coordinate, offset}
@@ -15,8 +15,8 @@ use Rattle.runs.specs.Colours.{colours, next, starts}
 use Rattle.runs.specs.Inside.Lists.{cut_to}
 use Rattle.runs.specs.Orders.{climbs, most_vertices, rises, sharp, steady}
 use Rattle.runs.specs.Rotate.{merged, rotate_runs, turn_left}
-use Rattle.runs.proofs.Laws.Claims.{reversed_colours}
-use Rattle.runs.proofs.Laws.Orders.{climbs_below, sharp_vertices, steady_sharp}
+use Rattle.runs.proofs.Laws.Claims.{reversed_colours, rotated_colours}
+use Rattle.runs.proofs.Laws.Orders.{climbs_below, sharp_vertices, sharp_yes, steady_sharp}
 
 -- its vertices are the last one and those before it
 pub sharp_last : (n : ℕ) (ws : List ℕ) → sharp n ws ≡ true → sharp (suc (n - 1)) ws ≡ true
@@ -34,6 +34,9 @@ climbs_ends n at (w ∷ ws) e h =
     absurd (omega (arith, climbs_below (suc n) (offset w) ws a.1))
 
 -- ---- it is steady for a vertex less
+
+sharp_some : (n : ℕ) (ws : List ℕ) → sharp (suc n) ws ≡ true → 0 < length ws
+sharp_some n ws e = (sharp_yes (suc n) ws e).some
 
 climbs_rises : (n at : ℕ) (ws : List ℕ) → climbs (suc n) at ws ≡ true → rises n at ws ≡ true
 unfolding climbs rises
@@ -157,6 +160,15 @@ module _ (n : ℕ) (ws : List ℕ) (list : sharp (suc n) ws ≡ true) where
       ap (λ (cs : List ℕ). merged (turn_left (pivot % n) cs))
       (reversed_colours n (cut_to n ws) few (steady_sharp n (cut_to n ws) (sharp_cut some)) ∙ ap reverse cut_colours ∙ sym (reversed_colours n ws few (steady_shorter n ws list)))
   rotate_cut pivot false some few = ap (λ (cs : List ℕ). merged (turn_left (pivot % n) cs)) cut_colours
+
+-- turned over the smaller count, it colours all vertices but the last, backwards where reversed
+pub rotate_shorter : (n pivot : ℕ) (ws : List ℕ) → sharp (suc n) ws ≡ true → n ≤ most_vertices → colours n (rotate_runs n pivot false ws) ≡ turn_left (pivot % n) (take n (colours (suc n) ws))
+rotate_shorter n pivot ws list few = rotated_colours n pivot false ws few (steady_shorter n ws list) (sharp_some n ws list) ∙ ap (turn_left (pivot % n)) (colours_shorter n ws list)
+
+pub rotate_shorter_back : (n pivot : ℕ) (ws : List ℕ) → sharp (suc n) ws ≡ true → n ≤ most_vertices → colours n (rotate_runs n pivot true ws) ≡ turn_left (pivot % n) (reverse (take n (colours (suc n) ws)))
+rotate_shorter_back n pivot ws list few =
+    rotated_colours n pivot true ws few (steady_shorter n ws list) (sharp_some n ws list)
+    ∙ ap (turn_left (pivot % n)) (reversed_colours n ws few (steady_shorter n ws list) ∙ ap reverse (colours_shorter n ws list))
 
 -- its starts are those that are still vertices
 pub starts_cut : (n : ℕ) (ws : List ℕ) → starts (cut_to n ws) ≡ filter (λ (s : ℕ). ltb s n) (starts ws)

@@ -259,7 +259,7 @@ round runs pivot shown =
     ∷ shown
     )
 
--- as it stands: the run of the last vertex is gone, and with it the third place for runs
+-- as it stands: the run of the last vertex is gone, so there are two runs
 abbrev round_0 : List (LentCall × Seen)
 round_0 = shows_5 0 ∷ shows_5 1 ∷ shows_07 2 ∷ shows_07 3 ∷ []
 
@@ -600,8 +600,9 @@ damages =
     ∷ at after_piece (opened 0 (pack 1 2)) (closes 4 line) (refused 5)
     ∷ at after_piece (opened 1 (pack 0 258)) (closes 4 (cycle 1)) (refused 5)
     ∷ at after_piece (opened 1 (pack 3 258)) (closes 4 (cycle 1)) (refused 5)
-    -- close: 11 before 5, 13 before 5, 5 before 16, 16 before 3, 5 before 3
+    -- close: 5 before 16, by the offsets and by the count, 16 before 3; 11 before 5, 13 before 5, 5 before 3
     ∷ at after_piece (opened 0 (pack 1 2)) (closes 4 (cycle 0)) (refused 5)
+    ∷ at after_piece (cell (current (Open 1))) (closes 4 (cycle 0)) (refused 5)
     ∷ at after_piece nothing (closes 4 (cycle 0)) (refused 16)
     ∷ at (no_table after_piece) nothing (closes 4 (cycle 0)) (refused 16)
     ∷ at after_piece (opened 0 (pack 1 2)) (closes 3 line) (refused 11)

@@ -1,7 +1,7 @@
 -- A close: its tests, and what ties the two stores after an accepted one.
 use Prim.Native.Nat.{ℕ, ◌+◌, ◌*◌, ◌%◌, ◌≤◌}
 use mathlib.Core.Path.{◌≡◌, refl, sym, ap, ◌∙◌, ap₂}
-use mathlib.Core.Bool.{true, ◌||◌, false}
+use mathlib.Core.Bool.{true, false, ◌||◌}
 use mathlib.Core.List.{List, [], ◌∷◌, ◌++◌}
 use mathlib.Core.Option.{Option, none, some}
 use native.Mathlib.Omega.{arith}
@@ -11,14 +11,14 @@ use borrow.Author.Tests.{ltb-false}
 use Rattle.std.proofs.Common.{Ok, Err}
 use Rattle.base.specs.Answers.{done}
 use Rattle.base.specs.Tests.{◌when◌else◌}
-use Rattle.base.specs.declared.Refusal.TheVariants.{Space, Acyclic}
+use Rattle.base.specs.declared.Refusal.TheVariants.{Acyclic, Space}
 use Rattle.base.proofs.Bools.{or_none}
 use Rattle.runs.specs.Bytes.{run_bytes}
 use Rattle.runs.specs.Orders.{sharp}
 use Rattle.runs.specs.Rotate.{merged, rotate_runs, turn_left}
-use Rattle.store.specs.Close.{after_close, close_filed, close_filed_of, close_open, close_test, count_of, filed_bytes, filed_runs, no_close_space, filed_count, acyclic_runs}
+use Rattle.store.specs.Close.{acyclic_runs, after_close, close_filed, close_filed_of, close_open, close_test, count_of, filed_bytes, filed_count, filed_runs, no_close_space}
 use Rattle.store.specs.Demand.{way_of}
-use Rattle.store.specs.Plain.{Plain, PlainCell, SharedLengths, Unitig, Way, accept, accepted, bytes_of, close, close_effect, close_tests, closed_bytes, cycle, effect, filed, line, tests, acyclic, turned_by, without_last}
+use Rattle.store.specs.Plain.{Plain, PlainCell, SharedLengths, Unitig, Way, accept, accepted, acyclic, bytes_of, close, close_effect, close_tests, closed_bytes, cycle, effect, filed, line, tests, turned_by, without_last}
 use Rattle.store.specs.State.{Bufs, CellBufs, Outcome, SharedBufs, after, shared_bufs, with_unitig}
 use Rattle.store.specs.declared.state.Cell.{Cell}
 use Rattle.store.specs.declared.state.Current.{Current}
@@ -30,7 +30,7 @@ use Rattle.store.proofs.Laws.Puts.{put_length}
 use Rattle.store.proofs.Laws.Rep.{CellRep, Good, OpenRep, Rep, SharedRep, unitig_runs}
 use Rattle.store.proofs.Laws.Rep as rep
 use Rattle.store.proofs.Laws.Table.{closed_one}
-use Rattle.store.proofs.Laws.Unitigs.{turn_good, but_last, shorter_told, first_of, last_of}
+use Rattle.store.proofs.Laws.Unitigs.{but_last, first_of, last_of, shorter_told, turn_good}
 
 -- ---- the unitig filed
 

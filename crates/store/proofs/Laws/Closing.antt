@@ -71,7 +71,7 @@ close_ready c s way n old runs table o e =
     let y : 2 * s.unitigs + 2 ≤ s.table = ltb-false _ _ d.0 in
     record {
       is_sharp = a.0;
-      comes_back = a.1;
+      not_acyclic = a.1;
       few = few_vertices c.current o.current;
       is_open = a.2;
       used_runs = o.runs.inside;

@@ -1,47 +1,66 @@
 -- Cycles, whose last vertex is their first: what a close as one is told, and what it leaves.
 use Prim.Native.Nat.{ℕ, suc, ◌+◌, ◌-◌, ◌*◌, ◌/◌, ◌%◌, ◌≤◌, ◌<◌}
-use mathlib.Core.Bool.{true, false}
+use mathlib.Core.Bool.{Bool, true, false}
 use mathlib.Core.List.{List, [], ◌∷◌, ◌++◌}
-use mathlib.Core.Option.{Option, some}
-use mathlib.Core.Path.{◌≡◌, refl, sym, ap, ◌∙◌, ap₂}
+use mathlib.Core.Option.{Option, none, some}
+use mathlib.Core.Path.{ap, ap₂, refl, sym, ◌∙◌, ◌≡◌}
 use native.Mathlib.Omega.{arith}
 use lib.Dec.{leb}
-use lib.ListN.{length, get_or, take, length-append, drop, drop_of_length-le}
+use lib.ListN.{drop, drop_of_length-le, get_or, length, length-append, take}
 use lib.Seq.{get_or-append_seam, get_or-take}
-use borrow.Author.Tests.{eq-eqb, le-leb, le-ltb, lt-leb, ne_eqb, ltb-false}
+use borrow.Author.Tests.{eq-eqb, le-leb, le-ltb, lt-leb, ltb-false, ne_eqb}
 use Rattle.std.proofs.Math.Nat.{mod-lt}
 use Rattle.base.specs.Answers.{done, refused}
 use Rattle.base.specs.Parts.{over}
 use Rattle.base.specs.Tests.{◌when◌else◌}
+use Rattle.base.proofs.Bools.{or_false, or_none, or_right}
+use Rattle.codec.specs.Flat.{flat}
 use Rattle.runs.specs.Bytes.{found}
 use Rattle.runs.specs.Orders.{sharp}
 use Rattle.runs.specs.Rotate.{merged}
-use Rattle.runs.proofs.Laws.Lists.{turned_at}
+use Rattle.runs.specs.Colours.{colours}
+use Rattle.runs.proofs.Laws.Lists.{turned_at, turned_onto}
+use Rattle.runs.proofs.Laws.Widths.{Narrow}
 use Rattle.store.specs.Close.{filed_count}
-use Rattle.store.specs.Cycles.{CycleFiled, Cycles, CyclesAfter, CyclesStatement, coords_of, cycle_reply, no_space_for_cycle, no_way_back}
+use Rattle.store.specs.Cycles.{CycleFiled, Cycles, CyclesAfter, CyclesStatement, Dropped, cycle_reply}
 use Rattle.store.specs.Demand.{LentCall, as_seen, out_of, runs_of, seen, sent, showing, store_step, way_of}
-use Rattle.store.specs.Plain.{Plain, Reply, Unitig, Way, accept, accepted, acyclic, again, answer, close, close_effect, close_tests, coord_at, cycle, effect, equal_updates, equal_ways, filed, ids_at, no_unitig, no_vertex, plain_show, plain_step, plain_update, refusal, tests, turned_by, verdict, without_last, refuse, bytes_of}
+use Rattle.store.specs.Plain.{Plain, Reply, Unitig, Way, accept, accepted, acyclic, again, answer, are_sharp, bytes_of, close, close_effect, close_tests, coord_at, coords_of, cycle, effect, equal_updates, equal_ways, filed, ids_at, line, no_space_for_unitig, no_unitig, no_vertex, plain_show, plain_step, plain_update, refusal, refuse, tests, turned_by, verdict, without_last}
 use Rattle.store.specs.Start.{bad_lengths, bad_limits}
 use Rattle.store.specs.State.{Bufs, lengths_of}
 use Rattle.store.specs.WhileOpen.{next_call, set_named}
 use Rattle.store.specs.declared.state.Current.{Current}
 use Rattle.store.specs.declared.state.Store.{Store}
-use Rattle.store.proofs.Laws.Closes.{files, close_place}
+use Rattle.store.specs.declared.state.Current.TheVariants.{Nothing}
+use Rattle.store.proofs.Laws.Closes.{close_place, files}
 use Rattle.store.proofs.Laws.Demand.{began, left, runs_agree}
 use Rattle.store.proofs.Laws.Next.{next_goes, next_number, two_tests}
-use Rattle.store.proofs.Laws.Rep.{Good, Named, OpenRep, Rep, unitig_runs, NamedIn}
+use Rattle.store.proofs.Laws.Rep.{Good, Named, NamedIn, OpenRep, Rep, unitig_runs}
 use Rattle.store.proofs.Laws.Rep as rep
 use Rattle.store.proofs.Laws.Shows.{count_is, good_here, named_narrow, runs_are}
 use Rattle.store.proofs.Laws.Trace.{step_ok}
 use Rattle.store.proofs.Laws.Accepted.{close_sets}
-use Rattle.base.proofs.Bools.{or_none, or_right, or_false}
-use Rattle.runs.proofs.Laws.Widths.{Narrow}
 use Rattle.store.proofs.Laws.Unitigs.{shorter_told}
-use Rattle.codec.specs.Flat.{flat}
+use Rattle.store.proofs.Laws.Agree.{sharp_agrees}
 
 open_good : {names : ℕ → Type 0} {used : ℕ} {c : Option Unitig} {o : Current} {runs : List ℕ} → OpenRep names c o used runs → (u : Unitig) → c ≡ some u → Good names u
 open_good rep.closed u e = let z : ◌≡◌ {A = ℕ} 0 1 = cc in absurd (omega arith)
 open_good (rep.opened {u = v} q g t) u e = let z : v ≡ u = cc in rw (← z) g
+
+open_none : {names : ℕ → Type 0} {used : ℕ} {c : Option Unitig} {o : Current} {runs : List ℕ} → OpenRep names c o used runs → c ≡ none → o ≡ Nothing
+open_none rep.closed e = refl
+open_none (rep.opened q g t) e = let z : ◌≡◌ {A = ℕ} 0 1 = cc in absurd (omega arith)
+
+none_left : (p : Plain) (way : Way) (c : Option Unitig) → (close_effect p way c).2 ≡ none
+unfolding close_effect
+none_left p way none = refl
+none_left p way (some u) = refl
+
+-- an answer is told where neither test holds
+replied : (s t : Bool) (a b : ℕ) → ◌when◌else◌ (refusal 16) s (◌when◌else◌ (refusal 3) t (answer a)) ≡ answer b → (s ≡ false) × (t ≡ false)
+unfolding ◌when◌else◌
+replied true t a b e = let z : ◌≡◌ {A = ℕ} 0 1 = cc in absurd (omega arith)
+replied false true a b e = let z : ◌≡◌ {A = ℕ} 0 1 = cc in absurd (omega arith)
+replied false false a b e = (refl, refl)
 
 -- ---- a cycle by its coordinates
 
@@ -66,7 +85,7 @@ module _ {p : Plain} {s : Store} {b : Bufs} (r : Rep p s b) (u : Unitig) (pivot 
   abbrev way : Way
   way = cycle pivot
 
-  cycle_tests : tests p (close way) ≡ ◌when◌else◌ (refuse 16) (no_way_back u.coords) (◌when◌else◌ (refuse 3) (no_space_for_cycle p pivot u) accept)
+  cycle_tests : tests p (close way) ≡ ◌when◌else◌ (refuse 16) (acyclic way u) (◌when◌else◌ (refuse 3) (no_space_for_unitig p.closed p.shared (filed way u)) accept)
   unfolding tests close_tests acyclic
   cycle_tests = rw is refl
 
@@ -78,10 +97,10 @@ module _ {p : Plain} {s : Store} {b : Bufs} (r : Rep p s b) (u : Unitig) (pivot 
   unfolding plain_step sent cycle_reply
   cycle_told =
       rw (next_number p (close way), cycle_tests)
-      (two_tests 16 3 (no_way_back u.coords) (no_space_for_cycle p pivot u) p (p.cell.last + 1) (close way)
-      ∙ ap (λ (a : ℕ). ◌when◌else◌ (refusal 16) (no_way_back u.coords) (◌when◌else◌ (refusal 3) (no_space_for_cycle p pivot u) (answer a))) place_is)
+      (two_tests 16 3 (acyclic way u) (no_space_for_unitig p.closed p.shared (filed way u)) p (p.cell.last + 1) (close way)
+      ∙ ap (λ (a : ℕ). ◌when◌else◌ (refusal 16) (acyclic way u) (◌when◌else◌ (refusal 3) (no_space_for_unitig p.closed p.shared (filed way u)) (answer a))) place_is)
 
-  module _ (back : no_way_back u.coords ≡ false) (room : no_space_for_cycle p pivot u ≡ false) where
+  module _ (back : acyclic way u ≡ false) (room : no_space_for_unitig p.closed p.shared (filed way u) ≡ false) where
     abbrev p' : Plain
     p' = accepted p (p.cell.last + 1) (close way) (effect p (close way))
 
@@ -135,6 +154,7 @@ module _ {p : Plain} {s : Store} {b : Bufs} (r : Rep p s b) (u : Unitig) (pivot 
     rep_after = rw goes at (step_ok r (next_call p (close way))).rep
 
     two : 2 ≤ length u.coords
+    unfolding acyclic
     two = ltb-false _ _ (or_none _ _ back).0
 
     long : length (filed way u).coords ≡ m
@@ -147,7 +167,8 @@ module _ {p : Plain} {s : Store} {b : Bufs} (r : Rep p s b) (u : Unitig) (pivot 
     count : get_or b'.shared.table (2 * place + 1) 0 ≡ m
     count = count_is narrow rep_after.shared place one_more ∙ ap (λ (v : Unitig). length v.coords) here_is ∙ long
 
-    turned : (v : ℕ) → v < m → get_or (coords_of p' place) v 0 ≡ get_or u.coords ((v + pivot) % m) 0
+    turned : (v : ℕ) → v < m → coord_at p' place v ≡ get_or u.coords ((v + pivot) % m) 0
+    unfolding coord_at
     turned v h = ap (λ (w : Unitig). get_or w.coords v 0) here_is ∙ cycle_coords u pivot v (shorter_told u (open_good r.cell.opened u is) two).long h
 
     no_more : (vertex : ℕ) (out : List ℕ) → m ≤ vertex → (store_step s' b' (showing place vertex out)).0 ≡ seen (refused 14) out
@@ -176,7 +197,7 @@ module _ {p : Plain} {s : Store} {b : Bufs} (r : Rep p s b) (u : Unitig) (pivot 
       ids = set_named p.cell (get_or u.coords ((v + pivot) % m) 0)
 
       ids_are : ids_at p' place v ≡ ids
-      unfolding ids_at coord_at
+      unfolding ids_at
       ids_are = ap₂ (λ (S : List (List ℕ)) (c : ℕ). get_or S (c / 256) []) sets_are (turned v h)
 
       vertex_is : no_vertex p' place v ≡ false
@@ -194,31 +215,67 @@ module _ {p : Plain} {s : Store} {b : Bufs} (r : Rep p s b) (u : Unitig) (pivot 
         (step_ok rep_after (next_call p (close way))).same ∙ ap (λ (x : Reply). as_seen x (out_of (next_call p (close way)))) (told_again ∙ sym (ap (λ (x : Reply × Plain). x.0) goes))
         ∙ sym (step_ok r (next_call p (close way))).same
 
+    none_open_after : s'.cell.current ≡ Nothing
+    unfolding accepted effect
+    none_open_after = open_none rep_after.cell.opened (none_left p way p.cell.current)
+
     other_way : (other : Way) → equal_ways way other ≡ false → (store_step s' b' (next_call p (close other))).0 ≡ seen (refused 11) []
     unfolding out_of as_seen
     other_way other e = (step_ok rep_after (next_call p (close other))).same ∙ rw (told_other other e) refl
+
+    pivots_differ : (q : ℕ) → (pivot ≡ q → ⊥) → equal_ways way (cycle q) ≡ false
+    unfolding equal_ways
+    pivots_differ q n = ne_eqb pivot q n
+
+    lines_differ : equal_ways way line ≡ false
+    unfolding equal_ways
+    lines_differ = refl
 
     cycle_filed : CycleFiled u pivot p s b (plain_step p (sent (next_call p (close way)))).1 s' b'
     cycle_filed =
         rw goes
         (record {
+          closed = none_open_after;
           count = count;
           no_more = no_more;
           turned = turned;
           shown = λ v out h k. shown_at v h out k;
+          each = λ w h. turned_onto pivot m w h;
           runs = runs_filed;
           each_run = each_run;
           again = sent_again;
-          other_way = other_way;
+          other_pivot = λ q n. other_way (cycle q) (pivots_differ q n);
+          as_line = other_way line lines_differ;
         })
 
+-- ---- the walk without its last vertex
+
+all_but_last : (u : Unitig) → (without_last u).coords ≡ take (length u.coords - 1) u.coords
+unfolding without_last
+all_but_last u = refl
+
+dropped : {names : ℕ → Type 0} (u : Unitig) → Good names u → 2 ≤ length u.coords → Dropped u
+dropped u g two =
+    let k = shorter_told u g two in
+    let w : Unitig = without_last u in
+    record {
+      starts = ap₂ are_sharp (sym k.long) (sym k.good.offsets) ∙ sharp_agrees (length w.coords) (unitig_runs w) ∙ k.good.is_sharp;
+      runs = ap (λ (m : ℕ). colours m (unitig_runs w)) (sym k.long) ∙ k.good.tell ∙ all_but_last u;
+    }
+
 module _ {p : Plain} {s : Store} {b : Bufs} (r : Rep p s b) where
+  none_told : (way : Way) → p.cell.current ≡ none → (plain_step p (sent (next_call p (close way)))).0 ≡ refusal 13
+  unfolding plain_step plain_update sent tests close_tests
+  none_told way is = rw (next_number p (close way), is) refl
+
   cycles : Cycles p s b
-  unfolding out_of
+  unfolding out_of cycle_reply as_seen
   cycles =
       record {
+        none_open = λ way is. (step_ok r (next_call p (close way))).same ∙ ap (λ (x : Reply). as_seen x []) (none_told way is);
         told = λ u pivot is. (step_ok r (next_call p (close (cycle pivot)))).same ∙ ap (λ (x : Reply). as_seen x []) (cycle_told r u pivot is);
-        filed = λ u pivot is back room. cycle_filed r u pivot is back room;
+        dropped = λ u is two. dropped u (open_good r.cell.opened u is) two;
+        filed = λ u pivot is e. let k = replied _ _ _ _ e in cycle_filed r u pivot is k.0 k.1;
       }
 
 module _ (N W : ℕ) (b : Bufs) (x : bad_limits N W ≡ false) (y : bad_lengths (lengths_of b) ≡ false) (calls : List LentCall) where

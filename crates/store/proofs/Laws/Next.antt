@@ -2,15 +2,15 @@
 use Prim.Native.Nat.{ℕ, ◌+◌}
 use mathlib.Core.List.{[], ◌∷◌}
 use mathlib.Core.Path.{◌≡◌, refl, ap, ◌∙◌}
+use mathlib.Core.Bool.{Bool, true, false}
 use native.Mathlib.Omega.{arith}
 use borrow.Author.Tests.{eq-eqb, ne_eqb}
 use Rattle.base.specs.Answers.{done, refused}
 use Rattle.base.specs.Tests.{◌when◌else◌}
 use Rattle.store.specs.Demand.{Seen, as_seen, seen, sent}
-use Rattle.store.specs.Plain.{Plain, Update, Verdict, accept, accepted, answer, effect, plain_step, plain_update, refuse, repeat, tests, verdict, refusal}
+use Rattle.store.specs.Plain.{Plain, Update, Verdict, accept, accepted, answer, effect, plain_step, plain_update, refusal, refuse, repeat, tests, verdict}
 use Rattle.store.specs.WhileOpen.{next_call}
 use Rattle.store.proofs.Laws.Accepted.{tests_not_repeat}
-use mathlib.Core.Bool.{Bool, true, false}
 
 pub next_number : (p : Plain) (u : Update) → verdict p (p.cell.last + 1) u ≡ tests p u
 unfolding verdict ◌when◌else◌

@@ -1,28 +1,29 @@
--- Which refusals start and each call can be told.
+-- Which refusals start and each call can be told, and that nothing is altered where one is.
 use Prim.Native.Nat.{ℕ, ◌+◌}
 use mathlib.Core.Bool.{Bool, true, false}
 use mathlib.Core.List.{List, [], ◌∷◌}
 use mathlib.Core.Option.{Option, none, some}
-use mathlib.Core.Path.{◌≡◌, refl, sym, ap, ◌∙◌, subst}
+use mathlib.Core.Path.{ap, refl, subst, sym, ◌∙◌, ◌≡◌}
 use native.Mathlib.Omega.{arith}
-use borrow.Author.Tests.{eq-eqb}
 use lib.Dec.{eqb, ltb}
 use lib.ListN.{length}
-use Rattle.std.proofs.Common.{Ok, Err}
+use borrow.Author.Tests.{eq-eqb}
+use Rattle.std.proofs.Common.{Err, None, Ok, Some}
 use Rattle.base.specs.Answers.{Answer, done, number_of, refused}
 use Rattle.base.specs.Tests.{◌when◌else◌}
 use Rattle.base.specs.declared.Refusal.{Refusal}
-use Rattle.base.specs.declared.Refusal.TheVariants.{Number, Acyclic}
+use Rattle.base.specs.declared.Refusal.TheVariants.{Acyclic, Number}
+use Rattle.base.specs.Parts.{over}
 use Rattle.base.proofs.Bools.{or_left, or_right, true_false}
-use Rattle.store.specs.Add.{add_cell, add_filed, add_step, add_test}
-use Rattle.store.specs.Close.{close_cell, close_filed_of, close_open, close_step, close_test, acyclic_runs}
-use Rattle.store.specs.Demand.{showing, store_step, store_update, updating, way_of, LentCall}
-use Rattle.store.specs.Join.{join_cell, join_filed_at, join_step, join_test, open_space, open_test}
-use Rattle.store.specs.Numbered.{Test, by_gate, by_sequence, numbered, repeated, sequence_of, tested}
+use Rattle.store.specs.Add.{add_cell, add_filed, add_step, add_test, after_add, same_add}
+use Rattle.store.specs.Close.{acyclic_runs, after_close, close_cell, close_filed_of, close_open, close_step, close_test, same_close}
+use Rattle.store.specs.Demand.{LentCall, Seen, out_of, seen, showing, store_step, store_update, unchanged, updated, updating, way_of}
+use Rattle.store.specs.Join.{after_join, join_cell, join_filed_at, join_step, join_test, open_space, open_test, same_join}
+use Rattle.store.specs.Numbered.{Gate, Test, by_gate, by_sequence, numbered, repeated, sequence_of, tested}
 use Rattle.store.specs.Plain.{Update, Way, add, close, cycle, join, line}
 use Rattle.store.specs.Refusals.{RefusalsStatement, is_one_of, refusals_of}
-use Rattle.store.specs.Show.{show_step, shown_by, no_place, vertex_set}
-use Rattle.store.specs.Start.{start_step, bad_limits, bad_lengths}
+use Rattle.store.specs.Show.{no_place, show_step, shown_by, vertex_set}
+use Rattle.store.specs.Start.{bad_lengths, bad_limits, no_store, start_step}
 use Rattle.store.specs.State.{Bufs, Outcome, lengths_of}
 use Rattle.store.specs.declared.state.Cell.{Cell}
 use Rattle.store.specs.declared.state.Current.{Current}
@@ -49,8 +50,11 @@ later k n ns e = or_right _ _ e
 same_refusal : (k n : ℕ) → refused k ≡ refused n → k ≡ n
 same_refusal k n e = cc
 
+done_not : (values : List ℕ) (n : ℕ) → done values ≡ refused n → ⊥
+done_not values n e = let z : ◌≡◌ {A = ℕ} 0 1 = cc in omega arith
+
 done_among : (values ns : List ℕ) → Among ns (done values)
-done_among values ns n e = let z : ◌≡◌ {A = ℕ} 0 1 = cc in absurd (omega arith)
+done_among values ns n e = absurd (done_not values n e)
 
 refused_among : (k : ℕ) (ns : List ℕ) → Among (k ∷ ns) (refused k)
 refused_among k ns n e = first k n ns (same_refusal k n e)
@@ -151,14 +155,76 @@ unfolding shown_by
 shown_among none out n e = refused_among 5 _ n e
 shown_among (some ids) out n e = later 5 n _ (one_before {R = Answer × List ℕ} (λ r. r.0) 3 [] (ltb (length out) (length ids)) _ _ refl (done_among _ _) n e)
 
+-- ---- and nothing is altered
+
+abbrev Left : Type 0
+Left = Seen × Store × Bufs
+
+-- a step that leaves everything where it is told a refusal
+abbrev Keeps : Store → Bufs → List ℕ → Left → Type 0
+Keeps s b out r = (n : ℕ) → r.0.answer ≡ refused n → r ≡ (seen (refused n) out, s, b)
+
+-- what is told by its answer alone
+keeps_told : (s : Store) (b : Bufs) (out : List ℕ) (a : Answer) → Keeps s b out (seen a out, s, b)
+keeps_told s b out a n e = ap (λ (x : Answer). (seen x out, s, b)) e
+
+keeps_done : (s : Store) (b : Bufs) (out : List ℕ) (values : List ℕ) (x : Left) → x.0.answer ≡ done values → Keeps s b out x
+keeps_done s b out values x d n e = absurd (done_not values n (sym d ∙ e))
+
+keeps_gate : {R : Type 0} (s : Store) (b : Bufs) (as_left : R → Left) (g : Gate) (told : Answer → R) (go : R) → ((a : Answer) → as_left (told a) ≡ (seen a [], s, b)) → Keeps s b [] (as_left go) → Keeps s b [] (as_left (by_gate g told go))
+unfolding by_gate
+keeps_gate s b f (Err r) told go t h = subst (Keeps s b []) (sym (t (refused (number_of r)))) (keeps_told s b [] (refused (number_of r)))
+keeps_gate s b f (Ok (Some a)) told go t h = subst (Keeps s b []) (sym (t (done (a ∷ [])))) (keeps_told s b [] (done (a ∷ [])))
+keeps_gate s b f (Ok None) told go t h = h
+
+keeps_15 : (s : Store) (b : Bufs) (t : Bool) (o : Outcome) → Keeps s b [] (updated o) → Keeps s b [] (updated (◌when◌else◌ (refused 15, s, b) t o))
+unfolding ◌when◌else◌
+keeps_15 s b true o h = keeps_told s b [] (refused 15)
+keeps_15 s b false o h = h
+
+update_keeps : (s : Store) (b : Bufs) (i : ℕ) (u : Update) → Keeps s b [] (updated (store_update s b i u))
+unfolding store_update add_step add_cell add_filed join_step join_cell join_filed_at close_step close_cell close_filed_of
+update_keeps s b i (add ids) =
+    keeps_15 s b (altered s (lengths_of b)) _
+    (keeps_gate s b (λ r. updated (after_add s b r)) (numbered s.cell i (same_add s.colors s.cell b.cell.records b.cell.index s.cell.last ids) (add_test s.colors s.cell ids)) _ _ (λ a. refl) (keeps_done s b [] _ _ refl))
+update_keeps s b i (join n reversed piece) =
+    keeps_15 s b (altered s (lengths_of b)) _
+    (keeps_gate s b (λ r. updated (after_join s b r)) (numbered s.cell i (same_join s.cell.held.used b.cell.held s.cell.last n reversed piece) (join_test s.cell b.cell.opened n reversed piece)) _ _ (λ a. refl) (keeps_done s b [] _ _ refl))
+update_keeps s b i (close way) =
+    keeps_15 s b (altered s (lengths_of b)) _
+    (keeps_gate s b (λ r. updated (after_close s b r)) (numbered s.cell i (same_close s.cell.last (way_of way)) (close_test s.cell s.shared b.cell.opened (way_of way))) _ _ (λ a. refl) (keeps_done s b [] _ _ refl))
+
+show_keeps : (s : Store) (b : Bufs) (out : List ℕ) (t u : Bool) (found : Option (List ℕ)) → Keeps s b out (unchanged s b (◌when◌else◌ {A = Answer × List ℕ} (refused 15, out) t (◌when◌else◌ (refused 14, out) u (shown_by found out))))
+unfolding shown_by ◌when◌else◌
+show_keeps s b out true u found = keeps_told s b out (refused 15)
+show_keeps s b out false true found = keeps_told s b out (refused 14)
+show_keeps s b out false false none = keeps_told s b out (refused 5)
+show_keeps s b out false false (some ids) = by (ltb (length out) (length ids))
+  where
+    by : (t : Bool) → Keeps s b out (unchanged s b (◌when◌else◌ {A = Answer × List ℕ} (refused 3, out) t (done (length ids ∷ []), over ids out)))
+    by true = keeps_told s b out (refused 3)
+    by false = keeps_done s b out _ _ refl
+
+start_keeps : (t u : Bool) (b : Bufs) (x : Outcome) (n : ℕ) → x.0 ≡ done [] → (◌when◌else◌ {A = Outcome} (refused 1, no_store, b) t (◌when◌else◌ (refused 3, no_store, b) u x)).0 ≡ refused n → (◌when◌else◌ {A = Outcome} (refused 1, no_store, b) t (◌when◌else◌ (refused 3, no_store, b) u x)).2 ≡ b
+unfolding ◌when◌else◌
+start_keeps true u b x n d e = refl
+start_keeps false true b x n d e = refl
+start_keeps false false b x n d e = let z : done [] ≡ refused n = sym d ∙ e in absurd (done_not [] n z)
+
 pub refusals : RefusalsStatement
-unfolding start_step store_step show_step refusals_of
+unfolding start_step store_step show_step refusals_of out_of
 refusals =
     record {
       start = λ N W b. one_before {R = Outcome} (λ r. r.0) 1 _ (bad_limits N W) _ _ refl (one_before {R = Outcome} (λ r. r.0) 3 [] (bad_lengths (lengths_of b)) _ _ refl (done_among _ _));
       call = calls;
+      start_kept = λ N W b n e. start_keeps (bad_limits N W) (bad_lengths (lengths_of b)) b _ n refl e;
+      kept = keeps;
     }
   where
+    keeps : (s : Store) (b : Bufs) (call : LentCall) → Keeps s b (out_of call) (store_step s b call)
+    keeps s b (updating i u) = update_keeps s b i u
+    keeps s b (showing unitig vertex out) = show_keeps s b out (altered s (lengths_of b)) (no_place s.shared b.shared.table unitig vertex) (vertex_set s b unitig vertex)
+
     calls : (s : Store) (b : Bufs) (call : LentCall) → Among (refusals_of call) (store_step s b call).0.answer
     calls s b (updating i u) = update_among s b i u
     calls s b (showing unitig vertex out) =

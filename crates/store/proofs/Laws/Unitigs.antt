@@ -7,7 +7,9 @@ use mathlib.Core.Option.{some}
 use native.Mathlib.Omega.{arith}
 use lib.ListN.{length, get_or, take, drop, replicate, length-map}
 use lib.Seq.{append_snoc, take-length, take-suc}
+use lib.Dec.{ltb}
 use borrow.Author.Tests.{eqb-true, ltb-true, not-false}
+use Rattle.std.specs.Prelude.{filter}
 use Rattle.base.proofs.All.{All, all_append, all_at, all_drop, all_less, all_replicate, all_reverse, all_take}
 use Rattle.base.proofs.Bools.{and_true}
 use Rattle.runs.specs.Append.{append_runs, appendix}
@@ -17,6 +19,7 @@ use Rattle.runs.specs.Orders.{climbs, sharp}
 use Rattle.runs.specs.Reverse.{oriented, reverse_runs}
 use Rattle.runs.specs.Rotate.{merged, runs_at, turn_left}
 use Rattle.runs.specs.Words.{coordinate, offset}
+use Rattle.runs.specs.Inside.Lists.{cut_to}
 use Rattle.runs.proofs.Laws.Bytes.{read_back}
 use Rattle.runs.proofs.Laws.Claims.{colour_of_vertex, first_colour, joined_sharp, last_colour, reversed_colours, reversed_sharp, sharp_told}
 use Rattle.runs.proofs.Laws.Colours.{steady_long}
@@ -24,17 +27,14 @@ use Rattle.runs.proofs.Laws.Cursor.{turn_long}
 use Rattle.runs.proofs.Laws.Joints.{colours_joined, last_below}
 use Rattle.runs.proofs.Laws.Lists.{all_turn}
 use Rattle.runs.proofs.Laws.Merge.{colours_merged, merged_sharp, starts_merged}
-use Rattle.runs.proofs.Laws.Orders.{end_le, sharp_steady, sharp_yes, steady_sharp, strict_few, yes_sharp}
+use Rattle.runs.proofs.Laws.Orders.{sharp_steady, sharp_vertices, sharp_yes, steady_sharp, strict_few, yes_sharp}
 use Rattle.runs.proofs.Laws.Starts.{starts_joined, starts_reversed}
 use Rattle.runs.proofs.Laws.Widths.{Narrow, coloured_words}
+use Rattle.runs.proofs.Laws.Shorter.{colours_shorter, cut_colours, sharp_cut, sharp_last, starts_cut}
 use Rattle.store.specs.Join.{all_named}
 use Rattle.store.specs.Plain.{Unitig, bytes_of, differs, expanded, inner_starts, joined, piece_of, turned_by, turned_round, without_last}
 use Rattle.store.proofs.Laws.Names.{named_one}
 use Rattle.store.proofs.Laws.Rep.{Good, Named, unitig_runs}
-use Rattle.runs.specs.Inside.Lists.{cut_to}
-use Rattle.runs.proofs.Laws.Shorter.{sharp_last, colours_shorter, cut_colours, sharp_cut, starts_cut}
-use Rattle.std.specs.Prelude.{filter}
-use lib.Dec.{ltb}
 
 -- ---- what its runs say of a unitig
 
@@ -119,7 +119,7 @@ told names n runs few e named =
     record {
       good =
           record {
-            vertices = omega (arith, s.up 0 s.some, end_le n runs 0 t.up);
+            vertices = omega (arith, sharp_vertices n runs e);
             few = omega arith;
             is_sharp = rw (l, q) e;
             tell = rw (l, q);

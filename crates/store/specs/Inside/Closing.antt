@@ -1,4 +1,4 @@
--- A close as the code goes, of the open runs alone: the table's space is tested first, and writing the run bytes tells whether they fit.
+-- A close as the code goes, of the open runs alone: the table's space is tested before that of the run bytes, and writing them tells whether they fit.
 use Rattle.std.specs.Prelude.{ℕ, ◌+◌, ◌*◌, List, [], ◌∷◌, length, ltb, Ok, Err}
 use Rattle.base.specs.Answers.{Answer, done, refused}
 use Rattle.base.specs.Tests.{◌when◌else◌}

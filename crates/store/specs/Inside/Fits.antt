@@ -74,7 +74,7 @@ pub record JoinReady (c : Cell) (n : ℕ) (reversed : Bool) (piece opened : List
 -- where close may go, with these open runs, but for the space of its run bytes
 pub record CloseReady (c : Cell) (s : Shared) (way : Way) (old : List ℕ) (runs table : ℕ) : Type 0 where
   pub is_sharp : sharp (count_of c.current) old ≡ true
-  pub comes_back : acyclic_runs way (count_of c.current) old ≡ false
+  pub not_acyclic : acyclic_runs way (count_of c.current) old ≡ false
   pub few : count_of c.current ≤ 16777215
   pub is_open : c.current ≡ Open (count_of c.current)
   pub used_runs : s.runs.used ≤ runs
