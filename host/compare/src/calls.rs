@@ -242,7 +242,7 @@ impl Random {
             _ => self.between(1, u64::from(shape.vertices)) as u32,
         };
         let reverse = self.flip();
-        // Whether it brings the unitig back to its first coordinate, with a run of its own where it has two vertices.
+        // Whether it brings the unitig back to its first coordinate, by a run of its own where the piece has two vertices or more.
         let back = self.flip();
         let mut offsets = self.offsets(n, shape.runs);
         if back && n > 1 {
@@ -268,7 +268,7 @@ impl Random {
         self.spoiled_piece(n, count, reverse, runs, plain)
     }
 
-    /// An offset by which the last run of a piece, as joined, is not its first one: often a run of one vertex. `n` is above 1.
+    /// Where a run starts that ends a piece of `n` vertices, or begins one that is sent reversed: often of one vertex. `n` is above 1.
     fn last_run(&mut self, n: u32, reverse: bool) -> u32 {
         match (self.flip(), reverse) {
             (true, false) => n - 1,

@@ -8,9 +8,9 @@ use model::runs::offset;
 pub const CYCLES: [&str; 8] = [
     "lines",
     "cycles",
-    "cycles whose last run was of the dropped vertex alone",
+    "cycles whose last run had the dropped vertex alone",
     "cycles that have one vertex left",
-    "cycles with another pivot modulo the count sent",
+    "cycles whose pivot differs modulo the two counts",
     "unitigs refused as a cycle and closed as a line",
     "shows of a vertex of a cycle",
     "shows of a cycle's dropped vertex",
