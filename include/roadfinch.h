@@ -28,7 +28,7 @@
 extern "C" {
 #endif
 
-/* The refusals that these functions give. 8 to 16 are those of the numbered store's calls, which are not C functions. */
+/* The refusals that these functions give. The numbers from 8 to 16 are told by the numbered store, which has no C functions. */
 enum {
     RF_OK = 0,
     RF_COLORS = 1,   /* the colour count is outside 1 to 1,048,576 */

@@ -417,10 +417,10 @@ fn close_needs_bytes_and_a_row() {
         (25, 1, cycle(2), false),
         (17, 2, cycle(1), true),
         (16, 2, cycle(1), false),
+        (17, 2, Way::Line, false),
         // Not turned: only the run that the last vertex had for itself is gone.
         (17, 2, cycle(0), true),
         (16, 2, cycle(0), false),
-        (17, 2, Way::Line, false),
     ] {
         let mut both = with_sets(Lengths {
             runs,

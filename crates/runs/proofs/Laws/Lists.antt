@@ -81,8 +81,7 @@ pub turned_onto : (pivot n w : ℕ) → w < n → (v : ℕ) × (v < n) × ((v + 
 turned_onto pivot n w h =
     let some : 0 < n = omega arith in
     let low : pivot % n < n = mod-lt pivot some in
-    let e : w + (n - pivot % n) + pivot % n ≡ w + n = omega (arith, low) in
-    (
+    let e : w + (n - pivot % n) + pivot % n ≡ w + n = omega (arith, low) in (
       (w + (n - pivot % n)) % n,
       mod-lt (w + (n - pivot % n)) some,
       mod-add-mod (w + (n - pivot % n)) n pivot ∙ sym (add-mod-mod (w + (n - pivot % n)) pivot n) ∙ ap (λ (k : ℕ). k % n) e ∙ add-mod_right w n ∙ mod-eq_of_lt h,
