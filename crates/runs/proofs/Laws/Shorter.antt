@@ -35,9 +35,6 @@ climbs_ends n at (w ∷ ws) e h =
 
 -- ---- it is steady for a vertex less
 
-sharp_some : (n : ℕ) (ws : List ℕ) → sharp (suc n) ws ≡ true → 0 < length ws
-sharp_some n ws e = (sharp_yes (suc n) ws e).some
-
 climbs_rises : (n at : ℕ) (ws : List ℕ) → climbs (suc n) at ws ≡ true → rises n at ws ≡ true
 unfolding climbs rises
 climbs_rises n at [] e = let h : at < suc n = ltb-true at (suc n) e in le-leb at n (omega arith)
@@ -163,11 +160,11 @@ module _ (n : ℕ) (ws : List ℕ) (list : sharp (suc n) ws ≡ true) where
 
 -- turned over the smaller count, it colours all vertices but the last, backwards where reversed
 pub rotate_shorter : (n pivot : ℕ) (ws : List ℕ) → sharp (suc n) ws ≡ true → n ≤ most_vertices → colours n (rotate_runs n pivot false ws) ≡ turn_left (pivot % n) (take n (colours (suc n) ws))
-rotate_shorter n pivot ws list few = rotated_colours n pivot false ws few (steady_shorter n ws list) (sharp_some n ws list) ∙ ap (turn_left (pivot % n)) (colours_shorter n ws list)
+rotate_shorter n pivot ws list few = rotated_colours n pivot false ws few (steady_shorter n ws list) (sharp_yes (suc n) ws list).some ∙ ap (turn_left (pivot % n)) (colours_shorter n ws list)
 
 pub rotate_shorter_back : (n pivot : ℕ) (ws : List ℕ) → sharp (suc n) ws ≡ true → n ≤ most_vertices → colours n (rotate_runs n pivot true ws) ≡ turn_left (pivot % n) (reverse (take n (colours (suc n) ws)))
 rotate_shorter_back n pivot ws list few =
-    rotated_colours n pivot true ws few (steady_shorter n ws list) (sharp_some n ws list)
+    rotated_colours n pivot true ws few (steady_shorter n ws list) (sharp_yes (suc n) ws list).some
     ∙ ap (turn_left (pivot % n)) (reversed_colours n ws few (steady_shorter n ws list) ∙ ap reverse (colours_shorter n ws list))
 
 -- its starts are those that are still vertices
