@@ -5,7 +5,7 @@ use mathlib.Core.Bool.{Bool, true, false}
 use mathlib.Core.List.{List, [], ◌∷◌, ◌++◌, append-nil, reverse}
 use native.Mathlib.Omega.{arith}
 use lib.Dec.{ltb}
-use lib.ListN.{length, length-replicate, replicate, take}
+use lib.ListN.{length-replicate, replicate, take}
 use lib.Seq.{take-append-add}
 use borrow.Author.Tests.{eqb-true, le-leb, lt-ltb, ltb-false, ltb-true}
 use Rattle.std.specs.Prelude.{cond, filter}
