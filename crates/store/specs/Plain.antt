@@ -194,12 +194,16 @@ pub data Verdict : Type 0 where
   repeat : ℕ → Verdict
   accept : Verdict
 
+-- the record file has no space for the record of these ids, or no index entry is free
+abbrev pub no_space_for_set : ℕ → PlainCell → List ℕ → Bool
+no_space_for_set N c ids = ltb c.lengths.records (length (file_of N c.S) + length (record_of N ids)) || ltb c.lengths.index (length c.S + 2)
+
 unfoldable pub add_tests : ℕ → PlainCell → List ℕ → Verdict
 add_tests N c ids =
     -- 2, ids not strictly ascending or one not below N; no ids are a set (request F-1); a unitig may be open (request F-2)
     refuse 2 when not (is_set N ids) else
     -- 3, the record doesn't fit the rest of the file, or no index entry is free
-    refuse 3 when ltb c.lengths.records (length (file_of N c.S) + length (record_of N ids)) || ltb c.lengths.index (length c.S + 2) else
+    refuse 3 when no_space_for_set N c ids else
     accept
 
 unfoldable pub join_tests : PlainCell → ℕ → Bool → List ℕ → Verdict

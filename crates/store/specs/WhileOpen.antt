@@ -1,12 +1,12 @@
 -- Request F-2, a set filed while a unitig is open: what an add is told and leaves, and what joins may name, after any list of calls; and that 12 is told of no call.
-use Rattle.std.specs.Prelude.{ℕ, ◌+◌, ◌*◌, ◌/◌, ◌≡◌, Bool, true, false, not, ◌||◌, List, [], ◌∷◌, ◌++◌, map, length, get_or, ltb}
+use Rattle.std.specs.Prelude.{ℕ, ◌+◌, ◌*◌, ◌/◌, ◌≡◌, Bool, true, false, not, List, [], ◌∷◌, ◌++◌, map, length, get_or}
 use Rattle.std.proofs.Math.Option.{Option, none, some}
 use Rattle.base.specs.Answers.{done, refused}
 use Rattle.base.specs.Tests.{◌when◌else◌}
-use Rattle.codec.specs.Records.{file_of, record_of}
+use Rattle.codec.specs.Records.{record_of}
 use Rattle.runs.specs.Words.{coordinate}
 use Rattle.store.specs.Demand.{LentCall, Seen, as_seen, record_file, seen, sent, store_run, store_step, updating}
-use Rattle.store.specs.Plain.{Plain, PlainCell, Reply, Unitig, Update, add, answer, is_set, join, name_sets, plain_fresh, plain_run, plain_step, refusal}
+use Rattle.store.specs.Plain.{Plain, PlainCell, Reply, Unitig, Update, add, answer, is_set, join, name_sets, no_space_for_set, plain_fresh, plain_run, plain_step, refusal}
 use Rattle.store.specs.Start.{start_step}
 use Rattle.store.specs.State.{Bufs, lengths_of}
 use Rattle.store.specs.declared.state.Current.{Current}
@@ -33,10 +33,6 @@ on_file c coords = name_sets c.W (length c.S) coords
 abbrev pub set_named : PlainCell → ℕ → List ℕ
 set_named c coord = get_or c.S (coord / 256) []
 
--- the record file has no space for the record of these ids, or no index entry is free
-abbrev pub no_space_for : Plain → List ℕ → Bool
-no_space_for p ids = ltb p.cell.lengths.records (length (file_of p.N p.cell.S) + length (record_of p.N ids)) || ltb p.cell.lengths.index (length p.cell.S + 2)
-
 -- the coordinate of the next set
 abbrev pub next_coord : PlainCell → ℕ
 next_coord c = c.W + 256 * length c.S
@@ -47,7 +43,7 @@ add_reply p ids =
     -- 2, ids not strictly ascending or one not below N
     refusal 2 when not (is_set p.N ids) else
     -- 3, the record doesn't fit the rest of the file, or no index entry is free
-    refusal 3 when no_space_for p ids else
+    refusal 3 when no_space_for_set p.N p.cell ids else
     answer (next_coord p.cell)
 
 -- a call with the next number
@@ -90,7 +86,7 @@ pub record WhileOpen (p : Plain) (s : Store) (b : Bufs) : Type 0 where
   -- "the open unitig is untouched", and so are the closed ones, by any add
   pub untouched : (i : ℕ) (ids : List ℕ) → unitigs_in (store_step s b (updating i (add ids))).1 (store_step s b (updating i (add ids))).2 ≡ unitigs_in s b
   pub filed :
-      (ids : List ℕ) → is_set p.N ids ≡ true → no_space_for p ids ≡ false
+      (ids : List ℕ) → is_set p.N ids ≡ true → no_space_for_set p.N p.cell ids ≡ false
       → FiledBetween ids p s b (plain_step p (sent (next_call p (add ids)))).1 (store_step s b (next_call p (add ids))).1 (store_step s b (next_call p (add ids))).2
 
 -- by what a list of calls leaves: the plain store after it, the store and its buffers

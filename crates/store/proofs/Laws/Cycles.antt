@@ -24,7 +24,7 @@ use Rattle.runs.proofs.Laws.Widths.{Narrow}
 use Rattle.store.specs.Close.{filed_count}
 use Rattle.store.specs.Cycles.{CycleFiled, Cycles, CyclesAfter, CyclesStatement, Dropped, cycle_reply}
 use Rattle.store.specs.Demand.{LentCall, as_seen, out_of, runs_of, seen, sent, showing, store_step, way_of}
-use Rattle.store.specs.Plain.{Plain, Reply, Unitig, Way, accept, accepted, acyclic, again, answer, are_sharp, bytes_of, close, close_effect, close_tests, coord_at, coords_of, cycle, effect, equal_updates, equal_ways, filed, ids_at, line, no_space_for_unitig, no_unitig, no_vertex, plain_show, plain_step, plain_update, refusal, refuse, tests, turned_by, verdict, without_last}
+use Rattle.store.specs.Plain.{Plain, Reply, Unitig, Way, accept, accepted, acyclic, answer, are_sharp, bytes_of, close, close_effect, close_tests, coord_at, coords_of, cycle, effect, equal_updates, equal_ways, filed, ids_at, line, no_space_for_unitig, no_unitig, no_vertex, plain_show, plain_step, plain_update, refusal, refuse, tests, turned_by, without_last}
 use Rattle.store.specs.Start.{bad_lengths, bad_limits}
 use Rattle.store.specs.State.{Bufs, lengths_of}
 use Rattle.store.specs.WhileOpen.{next_call, set_named}
@@ -33,7 +33,7 @@ use Rattle.store.specs.declared.state.Store.{Store}
 use Rattle.store.specs.declared.state.Current.TheVariants.{Nothing}
 use Rattle.store.proofs.Laws.Closes.{close_place, files}
 use Rattle.store.proofs.Laws.Demand.{began, left, runs_agree}
-use Rattle.store.proofs.Laws.Next.{next_goes, next_number, two_tests}
+use Rattle.store.proofs.Laws.Next.{after_next, next_goes, next_number, next_rep, sent_again, sent_other, two_tests}
 use Rattle.store.proofs.Laws.Rep.{Good, Named, NamedIn, OpenRep, Rep, unitig_runs}
 use Rattle.store.proofs.Laws.Rep as rep
 use Rattle.store.proofs.Laws.Shows.{count_is, good_here, named_narrow, runs_are}
@@ -61,6 +61,20 @@ unfolding ◌when◌else◌
 replied true t a b e = let z : ◌≡◌ {A = ℕ} 0 1 = cc in absurd (omega arith)
 replied false true a b e = let z : ◌≡◌ {A = ℕ} 0 1 = cc in absurd (omega arith)
 replied false false a b e = (refl, refl)
+
+-- ---- cycles with the same pivot, with another one, and a line
+
+same_cycles : (pivot : ℕ) → equal_updates (close (cycle pivot)) (close (cycle pivot)) ≡ true
+unfolding equal_updates equal_ways
+same_cycles pivot = eq-eqb pivot pivot refl
+
+other_cycles : (pivot q : ℕ) → (pivot ≡ q → ⊥) → equal_updates (close (cycle pivot)) (close (cycle q)) ≡ false
+unfolding equal_updates equal_ways
+other_cycles pivot q n = ne_eqb pivot q n
+
+cycle_no_line : (pivot : ℕ) → equal_updates (close (cycle pivot)) (close line) ≡ false
+unfolding equal_updates equal_ways
+cycle_no_line pivot = refl
 
 -- ---- a cycle by its coordinates
 
@@ -102,11 +116,11 @@ module _ {p : Plain} {s : Store} {b : Bufs} (r : Rep p s b) (u : Unitig) (pivot 
 
   module _ (back : acyclic way u ≡ false) (room : no_space_for_unitig p.closed p.shared (filed way u) ≡ false) where
     abbrev p' : Plain
-    p' = accepted p (p.cell.last + 1) (close way) (effect p (close way))
+    p' = after_next p (close way)
 
-    goes : plain_step p (sent (next_call p (close way))) ≡ (answer (effect p (close way)).0, p')
+    taken : tests p (close way) ≡ accept
     unfolding ◌when◌else◌
-    goes = next_goes p (close way) (cycle_tests ∙ rw (back, room) refl)
+    taken = cycle_tests ∙ rw (back, room) refl
 
     -- one unitig more, behind the others
     closed_is : p'.closed ≡ p.closed ++ (filed way u ∷ [])
@@ -123,19 +137,6 @@ module _ {p : Plain} {s : Store} {b : Bufs} (r : Rep p s b) (u : Unitig) (pivot 
     unfolding accepted effect
     sets_are = close_sets p way p.cell.current
 
-    -- sent again, and another call under its number
-    told_again : (plain_step p' (sent (next_call p (close way)))).0 ≡ answer (effect p (close way)).0
-    unfolding plain_step plain_update sent verdict again equal_updates equal_ways accepted ◌when◌else◌
-    told_again =
-        let z : p.cell.last + 1 ≡ 0 → ⊥ = λ e. omega arith in
-        rw (ne_eqb _ _ z, eq-eqb (p.cell.last + 1) _ refl, eq-eqb pivot pivot refl)
-
-    told_other : (other : Way) → equal_ways way other ≡ false → (plain_step p' (sent (next_call p (close other)))).0 ≡ refusal 11
-    unfolding plain_step plain_update sent verdict again equal_updates accepted ◌when◌else◌
-    told_other other e =
-        let z : p.cell.last + 1 ≡ 0 → ⊥ = λ e. omega arith in
-        rw (ne_eqb _ _ z, eq-eqb (p.cell.last + 1) _ refl, e)
-
     -- ---- the store over its buffers
 
     abbrev s' : Store
@@ -151,7 +152,7 @@ module _ {p : Plain} {s : Store} {b : Bufs} (r : Rep p s b) (u : Unitig) (pivot 
     m = length u.coords - 1
 
     rep_after : Rep p' s' b'
-    rep_after = rw goes at (step_ok r (next_call p (close way))).rep
+    rep_after = next_rep r (close way) taken
 
     two : 2 ≤ length u.coords
     unfolding acyclic
@@ -210,30 +211,13 @@ module _ {p : Plain} {s : Store} {b : Bufs} (r : Rep p s b) (u : Unitig) (pivot 
       unfolding plain_step plain_show sent out_of as_seen ◌when◌else◌
       shown_at out k = (step_ok rep_after (showing place v out)).same ∙ rw (vertex_is, ids_are, le-ltb _ _ k) refl
 
-    sent_again : (store_step s' b' (next_call p (close way))).0 ≡ (store_step s b (next_call p (close way))).0
-    sent_again =
-        (step_ok rep_after (next_call p (close way))).same ∙ ap (λ (x : Reply). as_seen x (out_of (next_call p (close way)))) (told_again ∙ sym (ap (λ (x : Reply × Plain). x.0) goes))
-        ∙ sym (step_ok r (next_call p (close way))).same
-
     none_open_after : s'.cell.current ≡ Nothing
     unfolding accepted effect
     none_open_after = open_none rep_after.cell.opened (none_left p way p.cell.current)
 
-    other_way : (other : Way) → equal_ways way other ≡ false → (store_step s' b' (next_call p (close other))).0 ≡ seen (refused 11) []
-    unfolding out_of as_seen
-    other_way other e = (step_ok rep_after (next_call p (close other))).same ∙ rw (told_other other e) refl
-
-    pivots_differ : (q : ℕ) → (pivot ≡ q → ⊥) → equal_ways way (cycle q) ≡ false
-    unfolding equal_ways
-    pivots_differ q n = ne_eqb pivot q n
-
-    lines_differ : equal_ways way line ≡ false
-    unfolding equal_ways
-    lines_differ = refl
-
     cycle_filed : CycleFiled u pivot p s b (plain_step p (sent (next_call p (close way)))).1 s' b'
     cycle_filed =
-        rw goes
+        rw (next_goes p (close way) taken)
         (record {
           closed = none_open_after;
           count = count;
@@ -243,9 +227,9 @@ module _ {p : Plain} {s : Store} {b : Bufs} (r : Rep p s b) (u : Unitig) (pivot 
           each = λ w h. turned_onto pivot m w h;
           runs = runs_filed;
           each_run = each_run;
-          again = sent_again;
-          other_pivot = λ q n. other_way (cycle q) (pivots_differ q n);
-          as_line = other_way line lines_differ;
+          again = sent_again r (close way) taken (same_cycles pivot);
+          other_pivot = λ q n. sent_other r (close way) taken (close (cycle q)) (other_cycles pivot q n);
+          as_line = sent_other r (close way) taken (close line) (cycle_no_line pivot);
         })
 
 -- ---- the walk without its last vertex

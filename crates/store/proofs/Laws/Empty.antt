@@ -4,9 +4,9 @@ use mathlib.Core.Path.{◌≡◌, refl, sym, ap, ◌∙◌}
 use mathlib.Core.Bool.{true, false}
 use mathlib.Core.List.{List, [], ◌∷◌, ◌++◌, append-nil}
 use mathlib.Core.Option.{some}
+use native.Mathlib.Omega.{arith}
 use lib.ListN.{length}
 use borrow.Author.Tests.{le-ltb, leb-false}
-use native.Mathlib.Omega.{arith}
 use Rattle.base.specs.Answers.{done}
 use Rattle.base.specs.Parts.{over}
 use Rattle.base.specs.Tests.{◌when◌else◌}
@@ -14,10 +14,10 @@ use Rattle.base.proofs.Bools.{or_none}
 use Rattle.codec.proofs.Promise.{promise}
 use Rattle.store.specs.Demand.{LentCall, as_seen, out_of, record_file, seen, showing}
 use Rattle.store.specs.Empty.{EmptySetStatement, EmptySetAfter, empty_reply, no_space_for_empty}
-use Rattle.store.specs.Plain.{Plain, Reply, all_below, ascends, ids_at, is_set, no_vertex, plain_show}
+use Rattle.store.specs.Plain.{Plain, Reply, all_below, ascends, ids_at, is_set, no_space_for_set, no_vertex, plain_show}
 use Rattle.store.specs.Start.{bad_lengths, bad_limits}
 use Rattle.store.specs.State.{Bufs, lengths_of}
-use Rattle.store.specs.WhileOpen.{add_reply, no_space_for}
+use Rattle.store.specs.WhileOpen.{add_reply}
 use Rattle.store.proofs.Laws.Demand.{began, left, plain, runs_agree, sent_set, shows_plain}
 use Rattle.store.proofs.Laws.Trace.{step_ok}
 use Rattle.store.proofs.Laws.WhileOpen.{while_open}
@@ -26,7 +26,7 @@ use Rattle.store.proofs.Laws.WhileOpen.{while_open}
 
 module _ (p : Plain) where
   -- an add of it is one of any ids
-  no_space_is : no_space_for p [] ≡ no_space_for_empty p
+  no_space_is : no_space_for_set p.N p.cell [] ≡ no_space_for_empty p
   no_space_is = rw (promise.empty_record p.N)
 
   empty_told : add_reply p [] ≡ empty_reply p

@@ -8,11 +8,11 @@ use native.Mathlib.Omega.{arith}
 use lib.Dec.{eqb}
 use lib.ListN.{length, get_or, length-append, get_or-append}
 use lib.Seq.{get_or-append_seam}
-use borrow.Author.Tests.{eq-eqb, eqb-false, ne_eqb, not-false}
+use borrow.Author.Tests.{eq-eqb, eqb-false, not-false}
 use Rattle.std.proofs.Common.{Ok, Err, Some, None}
 use Rattle.base.specs.Answers.{Answer, done, refused}
 use Rattle.base.specs.Tests.{◌when◌else◌}
-use Rattle.base.proofs.Bools.{not_no, or_right}
+use Rattle.base.proofs.Bools.{not_no}
 use Rattle.base.proofs.Tests.{when_no}
 use Rattle.codec.specs.Records.{record_of, file_of}
 use Rattle.runs.specs.Words.{coordinate}
@@ -21,10 +21,10 @@ use Rattle.store.specs.Add.{add_cell, add_filed, add_step, add_test, after_add, 
 use Rattle.store.specs.Altered.{altered}
 use Rattle.store.specs.Demand.{LentCall, Seen, as_seen, out_of, record_file, seen, sent, store_step, store_update, updated, updating}
 use Rattle.store.specs.Numbered.{Gate, by_gate, numbered}
-use Rattle.store.specs.Plain.{Plain, Reply, Unitig, Update, accept, accepted, add, add_tests, again, answer, effect, equal_updates, is_set, join, join_tests, name_sets, plain_step, plain_update, refusal, refuse, tests, verdict, equal}
+use Rattle.store.specs.Plain.{Plain, Reply, Unitig, accept, accepted, add, add_tests, effect, equal_updates, is_set, join, join_tests, name_sets, no_space_for_set, plain_step, refuse, tests, equal}
 use Rattle.store.specs.Start.{bad_lengths, bad_limits}
 use Rattle.store.specs.State.{Bufs, Outcome, after, lengths_of}
-use Rattle.store.specs.WhileOpen.{FiledBetween, WhileOpen, WhileOpenAfter, WhileOpenStatement, add_reply, on_file, next_call, no_space_for, open_coords, unitigs_in, next_coord, set_named}
+use Rattle.store.specs.WhileOpen.{FiledBetween, WhileOpen, WhileOpenAfter, WhileOpenStatement, add_reply, on_file, next_call, open_coords, unitigs_in, next_coord, set_named}
 use Rattle.store.specs.declared.state.Current.{Current}
 use Rattle.store.specs.declared.state.Store.{Store}
 use Rattle.store.proofs.Laws.Adds.{set_more}
@@ -32,7 +32,7 @@ use Rattle.store.proofs.Laws.Demand.{began, left, records_kept, runs_agree}
 use Rattle.store.proofs.Laws.Flats.{flat_more}
 use Rattle.store.proofs.Laws.Gates.{found_later, refuse_less}
 use Rattle.store.proofs.Laws.Names.{names_more, names_told, told_names}
-use Rattle.store.proofs.Laws.Next.{answered, next_goes, next_number, refused_by, two_tests}
+use Rattle.store.proofs.Laws.Next.{after_next, answered, next_goes, next_number, next_rep, refused_by, sent_again, sent_late, two_tests}
 use Rattle.store.proofs.Laws.Rep.{Named, OpenRep, Rep}
 use Rattle.store.proofs.Laws.Rep as rep
 use Rattle.store.proofs.Laws.Trace.{step_ok}
@@ -61,12 +61,16 @@ unfolding equal
 equal_self [] = refl
 equal_self (x ∷ xs) = rw (eq-eqb x x refl, equal_self xs)
 
+equal_adds : (ids : List ℕ) → equal_updates (add ids) (add ids) ≡ true
+unfolding equal_updates
+equal_adds ids = equal_self ids
+
 module _ (p : Plain) (ids : List ℕ) where
   add_told : (plain_step p (sent (next_call p (add ids)))).0 ≡ add_reply p ids
   unfolding plain_step sent tests add_tests effect add_reply
-  add_told = rw (next_number p (add ids)) (two_tests 2 3 (not (is_set p.N ids)) (no_space_for p ids) p (p.cell.last + 1) (add ids))
+  add_told = rw (next_number p (add ids)) (two_tests 2 3 (not (is_set p.N ids)) (no_space_for_set p.N p.cell ids) p (p.cell.last + 1) (add ids))
 
-  pub add_taken : is_set p.N ids ≡ true → no_space_for p ids ≡ false → tests p (add ids) ≡ accept
+  pub add_taken : is_set p.N ids ≡ true → no_space_for_set p.N p.cell ids ≡ false → tests p (add ids) ≡ accept
   unfolding tests add_tests ◌when◌else◌
   add_taken s f = rw (s, f)
 
@@ -84,21 +88,6 @@ module _ (p : Plain) (ids : List ℕ) where
   join_same : (i n : ℕ) (reversed : Bool) (piece : List ℕ) → (effect (accepted p i (add ids) (effect p (add ids))) (join n reversed piece)).0 ≡ (effect p (join n reversed piece)).0
   unfolding accepted effect
   join_same i n reversed piece = refl
-
-  -- sent again it is a repeat
-  told_again : (plain_step (accepted p (p.cell.last + 1) (add ids) (effect p (add ids))) (sent (next_call p (add ids)))).0 ≡ answer (effect p (add ids)).0
-  unfolding plain_step plain_update sent verdict again equal_updates accepted ◌when◌else◌
-  told_again =
-      let z : p.cell.last + 1 ≡ 0 → ⊥ = λ e. omega arith in
-      rw (ne_eqb _ _ z, eq-eqb (p.cell.last + 1) _ refl, equal_self ids)
-
-  -- and the number before it is neither the last nor the next
-  told_late : (u : Update) → (plain_step (accepted p (p.cell.last + 1) (add ids) (effect p (add ids))) (sent (updating p.cell.last u))).0 ≡ refusal 10
-  unfolding plain_step plain_update sent verdict accepted ◌when◌else◌
-  told_late u =
-      let m : p.cell.last ≡ p.cell.last + 1 → ⊥ = λ e. omega arith in
-      let n : p.cell.last ≡ p.cell.last + 1 + 1 → ⊥ = λ e. omega arith in
-      rw (ne_eqb _ _ m, ne_eqb _ _ n, or_right (eqb p.cell.last 0) true refl)
 
 -- ---- the store
 
@@ -133,15 +122,15 @@ add_untouched s b i ids =
     (by_told s b i ids (numbered s.cell i (same_add s.colors s.cell b.cell.records b.cell.index s.cell.last ids) (add_test s.colors s.cell ids)))
 
 module _ {p : Plain} {s : Store} {b : Bufs} (r : Rep p s b) where
-  module _ (ids : List ℕ) (ok : is_set p.N ids ≡ true) (room : no_space_for p ids ≡ false) where
+  module _ (ids : List ℕ) (ok : is_set p.N ids ≡ true) (room : no_space_for_set p.N p.cell ids ≡ false) where
     abbrev p' : Plain
-    p' = accepted p (p.cell.last + 1) (add ids) (effect p (add ids))
+    p' = after_next p (add ids)
 
-    goes : plain_step p (sent (next_call p (add ids))) ≡ (answer (effect p (add ids)).0, p')
-    goes = next_goes p (add ids) (add_taken p ids ok room)
+    taken : tests p (add ids) ≡ accept
+    taken = add_taken p ids ok room
 
     rep_after : Rep p' (store_step s b (next_call p (add ids))).1 (store_step s b (next_call p (add ids))).2
-    rep_after = rw goes at (step_ok r (next_call p (add ids))).rep
+    rep_after = next_rep r (add ids) taken
 
     -- the coordinate that it answers
     abbrev coord : ℕ
@@ -165,15 +154,6 @@ module _ {p : Plain} {s : Store} {b : Bufs} (r : Rep p s b) where
     unfolding accepted effect
     old_sets coord h = get_or-append p.cell.S (ids ∷ []) [] (coord / 256) (names_told p.cell.W (length p.cell.S) (coord ∷ []) h).0.low
 
-    sent_again : (store_step (store_step s b (next_call p (add ids))).1 (store_step s b (next_call p (add ids))).2 (next_call p (add ids))).0 ≡ (store_step s b (next_call p (add ids))).0
-    sent_again =
-        (step_ok rep_after (next_call p (add ids))).same ∙ ap (λ (x : Reply). as_seen x (out_of (next_call p (add ids)))) (told_again p ids ∙ sym (ap (λ (x : Reply × Plain). x.0) goes))
-        ∙ sym (step_ok r (next_call p (add ids))).same
-
-    overtaken : (u : Update) → (store_step (store_step s b (next_call p (add ids))).1 (store_step s b (next_call p (add ids))).2 (updating p.cell.last u)).0 ≡ seen (refused 10) []
-    unfolding out_of as_seen
-    overtaken u = (step_ok rep_after (updating p.cell.last u)).same ∙ rw (told_late p ids u)
-
     joins_later : (n : ℕ) (reversed : Bool) (piece : List ℕ) (count : ℕ) → (store_step s b (next_call p (join n reversed piece))).0 ≡ seen (done (count ∷ [])) []
         → (store_step (store_step s b (next_call p (add ids))).1 (store_step s b (next_call p (add ids))).2 (next_call p' (join n reversed piece))).0 ≡ seen (done (count ∷ [])) []
     unfolding out_of as_seen
@@ -184,15 +164,15 @@ module _ {p : Plain} {s : Store} {b : Bufs} (r : Rep p s b) where
 
     filed_between : FiledBetween ids p s b (plain_step p (sent (next_call p (add ids)))).1 (store_step s b (next_call p (add ids))).1 (store_step s b (next_call p (add ids))).2
     filed_between =
-        rw goes
+        rw (next_goes p (add ids) taken)
         (record {
           file = files_it (p.cell.last + 1) ids r rep_after;
           new_named = new_named;
           new_set = new_set;
           old_sets = old_sets;
           joins = joins_later;
-          again = sent_again;
-          overtaken = overtaken;
+          again = sent_again r (add ids) taken (equal_adds ids);
+          overtaken = sent_late r (add ids) taken;
         })
 
   pub while_open : WhileOpen p s b
