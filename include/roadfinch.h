@@ -94,9 +94,9 @@ uint32_t rf_reverse_runs_in_place(uint64_t *runs, size_t runs_len,
                                   uint64_t *count);
 
 /* Appends a piece of piece_count vertices, reversed first where reverse is true, to the output: the first used runs of out,
- * of out_count vertices. The piece's first vertex is the output's last. If the output's last coordinate is that of the
- * (reversed) piece's first run, that run is dropped; otherwise it begins at out_count - 1. Writes behind the first used runs
- * of out, which stay.
+ * of out_count vertices. The piece's first vertex is the output's last, so its runs begin out_count - 1 vertices further on.
+ * A run of the (reversed) piece that has the coordinate of the run before it, which for the first one is the output's last,
+ * is left out. Writes behind the first used runs of out, which stay as they are.
  * *count: the runs that the output has now. *vertices: its vertices, out_count + piece_count - 1.
  * Refuses: RF_SPACE, used above out_len; RF_VERTICES, a count is 0 or the new one above 16,777,215; RF_RUNS, the output is
  * empty, not steady for out_count, or has its last offset not below out_count; RF_RUNS, the piece is not sharp for

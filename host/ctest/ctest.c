@@ -166,6 +166,27 @@ static void runs(void)
     CHECK(count == 77 && vertices == 77 && out[1] == RF_RUN(0, b) && out[2] == 1);
 }
 
+/* Of equal neighbours the first stays, of which the output's last run can be one. */
+static void merged(void)
+{
+    const uint64_t piece[] = {RF_RUN(0, 7), RF_RUN(1, 7), RF_RUN(2, 9), RF_RUN(3, 9)};
+    uint64_t out[] = {RF_RUN(0, 7), 1, 1, 1}, count = 77, vertices = 77;
+
+    CHECK(rf_append_runs(out, 1, 1, 3, piece, 4, 5, false, &count, &vertices) == RF_SPACE);
+    CHECK(count == 77 && vertices == 77);
+    CHECK(rf_append_runs(out, 2, 1, 3, piece, 4, 5, false, &count, &vertices) == RF_OK);
+    CHECK(count == 2 && vertices == 7);
+    CHECK(out[0] == RF_RUN(0, 7) && out[1] == RF_RUN(4, 9) && out[2] == 1);
+    CHECK(rf_append_runs(out, 3, 1, 3, piece, 4, 5, true, &count, &vertices) == RF_OK);
+    CHECK(count == 3 && vertices == 7);
+    CHECK(out[0] == RF_RUN(0, 7) && out[1] == RF_RUN(2, 9) && out[2] == RF_RUN(5, 7) && out[3] == 1);
+    /* One worker doesn't make two coordinates one. */
+    const uint64_t other[] = {RF_RUN(0, 7 + 256), RF_RUN(1, 7)};
+    CHECK(rf_append_runs(out, 4, 1, 1, other, 2, 2, false, &count, &vertices) == RF_OK);
+    CHECK(count == 3 && vertices == 2);
+    CHECK(out[0] == RF_RUN(0, 7) && out[1] == RF_RUN(0, 7 + 256) && out[2] == RF_RUN(1, 7) && out[3] == 1);
+}
+
 static void run_bytes(void)
 {
     const uint64_t list[] = {RF_RUN(4, 258)};
@@ -192,6 +213,7 @@ int main(void)
     record_refusals();
     indexes();
     runs();
+    merged();
     run_bytes();
     printf("ctest: %d checks, %d failed\n", checks, failed);
     return failed != 0;

@@ -6,11 +6,13 @@ pub mod Falls
 pub mod Colours
 pub mod Reverse
 pub mod Swap
+pub mod Merged
 pub mod Merge
 pub mod Cursor
 pub mod Answers
 pub mod Append
 pub mod Fill
+pub mod Merging
 pub mod Joints
 pub mod Starts
 pub mod Shorter

@@ -18,7 +18,8 @@ use Rattle.runs.specs.Words.{pack}
 use Rattle.runs.specs.Colours.{colours}
 use Rattle.runs.specs.Orders.{rises, steady, climbs, sharp, list_into}
 use Rattle.runs.specs.Reverse.{reverse_runs, reverse_into}
-use Rattle.runs.specs.Append.{shifted, skip, appendix, append_runs, bad_counts, joinable, result_into, append_into}
+use Rattle.runs.specs.Merge.{merge_behind}
+use Rattle.runs.specs.Append.{shifted, appendix, append_runs, bad_counts, joinable, result_into, append_into}
 use Rattle.runs.specs.Rotate.{changes, firsts, runs_at, merged, rotate_runs, rotate_into}
 use Rattle.runs.specs.Bytes.{le_bytes, run_bytes, write_runs}
 
@@ -97,5 +98,5 @@ table =
 pub starred : map (λ (c : Case). c.computed) table ≡ map (λ (c : Case). c.expected) table
 unfolding
     ◌when◌else◌ over pack_bits pack_bytes value_of low_bits delta gamma high_bit high_in leb_in prefix_of map_bits ids_of absent gap_bits regime set_bits encode_set within record_of bad_colors write_record flat colours rises steady climbs sharp list_into
-    reverse_runs shifted skip appendix append_runs bad_counts joinable result_into append_into changes firsts runs_at merged rotate_runs le_bytes run_bytes write_runs
+    reverse_runs shifted merge_behind appendix append_runs bad_counts joinable result_into append_into changes firsts runs_at merged rotate_runs le_bytes run_bytes write_runs
 starred = refl

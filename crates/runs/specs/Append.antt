@@ -1,4 +1,4 @@
--- Section 6 of 01: append. A piece behind an output: the piece's first vertex is the output's last.
+-- Section 6 of 01, with request F-9: append. A piece behind an output: the piece's first vertex is the output's last.
 use Rattle.std.specs.Prelude.{ℕ, ◌+◌, ◌-◌, Bool, not, ◌||◌, ◌&&◌, List, [], ◌∷◌, ◌++◌, map, length, take, drop, ltb, eqb, Result, Ok, Err}
 use Rattle.base.specs.Tests.{◌when◌else◌}
 use Rattle.base.specs.Answers.{Answer, refused, done, number_of}
@@ -7,6 +7,7 @@ use Rattle.runs.specs.Words.{offset, coordinate, pack}
 use Rattle.runs.specs.Colours.{last_run, first_coord, last_coord}
 use Rattle.runs.specs.Orders.{most_vertices, steady, sharp}
 use Rattle.runs.specs.Reverse.{oriented}
+use Rattle.runs.specs.Merge.{merge_behind}
 use Rattle.base.specs.declared.Refusal.{Refusal}
 use Rattle.runs.specs.declared.append.Appended.{Appended}
 
@@ -22,16 +23,20 @@ shift k w = pack (offset w + k) (coordinate w)
 unfoldable pub shifted : ℕ → List ℕ → List ℕ
 shifted k ws = map (shift k) ws
 
--- how many runs are dropped behind an output that ends on coordinate c: the piece's first, where it has the same
+-- what append puts behind an output of `count` vertices that ends on coordinate c: the oriented piece's runs, without those that have the coordinate of the one before (request F-9)
+unfoldable pub appendix : ℕ → ℕ → List ℕ → List ℕ
+appendix c count piece = shifted (count - 1) (merge_behind c piece)
+
+-- the output's own runs stay as they are
+unfoldable pub append_runs : List ℕ → ℕ → List ℕ → ℕ → Bool → List ℕ
+append_runs out count piece n reversed = out ++ appendix (last_coord out) count (oriented reversed n piece)
+
+-- 01's own append, which the reference has: only the oriented piece's first run is dropped, where the output's last coordinate equals its own
 unfoldable pub skip : ℕ → List ℕ → ℕ
 skip c piece = 1 when eqb c (first_coord piece) else 0
 
--- what append puts behind an output of `count` vertices that ends on coordinate c; the piece is oriented
-unfoldable pub appendix : ℕ → ℕ → List ℕ → List ℕ
-appendix c count piece = shifted (count - 1) (drop (skip c piece) piece)
-
-unfoldable pub append_runs : List ℕ → ℕ → List ℕ → ℕ → Bool → List ℕ
-append_runs out count piece n reversed = out ++ appendix (last_coord out) count (oriented reversed n piece)
+unfoldable pub unmerged_runs : List ℕ → ℕ → List ℕ → ℕ → Bool → List ℕ
+unmerged_runs out count piece n reversed = out ++ shifted (count - 1) (drop (skip (last_coord out) (oriented reversed n piece)) (oriented reversed n piece))
 
 -- a count 0, or a new count above 16,777,215
 unfoldable pub bad_counts : ℕ → ℕ → Bool

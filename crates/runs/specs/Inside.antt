@@ -4,6 +4,7 @@ pub mod Oriented
 pub mod Falls
 pub mod Swap
 pub mod Pieces
+pub mod Merging
 pub mod Cursor
 pub mod Turned
 pub mod Blocks

@@ -3,6 +3,7 @@ pub mod Words
 pub mod Colours
 pub mod Orders
 pub mod Reverse
+pub mod Merge
 pub mod Append
 pub mod Rotate
 pub mod Bytes

@@ -1,9 +1,10 @@
 -- Section 6 of 01: rotate. A cycle begun at another vertex.
-use Rattle.std.specs.Prelude.{ℕ, ◌+◌, ◌%◌, Bool, true, false, List, [], ◌∷◌, ◌++◌, map, take, drop, get_or, eqb}
+use Rattle.std.specs.Prelude.{ℕ, ◌+◌, ◌%◌, Bool, List, [], ◌∷◌, ◌++◌, map, take, drop, get_or, eqb}
 use Rattle.base.specs.Answers.{Answer}
 use Rattle.runs.specs.Words.{pack}
 use Rattle.runs.specs.Colours.{colours}
 use Rattle.runs.specs.Orders.{list_into}
+use Rattle.runs.specs.Merge.{unless}
 use Rattle.runs.specs.Reverse.{oriented}
 
 -- turned left by k: the colours from vertex k on, then those before it
@@ -11,10 +12,6 @@ abbrev pub turn_left : ℕ → List ℕ → List ℕ
 turn_left k cs = drop k cs ++ take k cs
 
 -- the vertices from `at` on, behind one of colour c, that are unlike the one before
-abbrev pub unless : Bool → ℕ → List ℕ → List ℕ
-unless true at rest = rest
-unless false at rest = at ∷ rest
-
 unfoldable pub changes : ℕ → ℕ → List ℕ → List ℕ
 changes c at [] = []
 changes c at (d ∷ cs) = unless (eqb c d) at (changes d (at + 1) cs)

@@ -2,10 +2,13 @@
 // interface hands it over: the libraries have no heap.
 ghost use Rattle.std.specs.Prelude.{◌≡◌, ◌+◌, ◌-◌, ◌<◌, ◌≤◌, length, take, drop};
 ghost use Rattle.std.specs.Int.{from_bool};
+ghost use Rattle.base.specs.Parts.{over};
 ghost use Rattle.std.proofs.Math.Seq.{paste};
 ghost use Rattle.runs.specs.Colours.{last_coord};
 ghost use Rattle.runs.specs.Inside.Oriented.{list_of};
 ghost use Rattle.runs.specs.Append.{of_appended, shifted, append_runs, bad_counts, joinable, result_into, append_into};
+ghost use Rattle.runs.specs.Merge.{merge};
+ghost use Rattle.runs.specs.Inside.Merging.{FillsAll, merged_behind};
 ghost use Rattle.runs.specs.Inside.Pieces.{Admitted, drops_first};
 
 use crate::oriented::{Oriented, Shifted};
@@ -34,7 +37,7 @@ fn is_joinable(runs: &[u64], n: u32) -> bool
     orders::is_steady(runs, n) && runs.last().is_some_and(|run| words::offset(*run) < n)
 }
 
-// Whether the piece's first run is dropped behind a list: where its coordinate is the list's last.
+// Whether the piece's first run has the coordinate of the output's last.
 fn drops_first(runs: &[u64], piece: &Oriented) -> bool
     requires { 0 < length piece.now.runs.now }
     ensures { result ≡ drops_first (last_coord runs.now) (list_of piece.now) }
@@ -44,7 +47,7 @@ fn drops_first(runs: &[u64], piece: &Oriented) -> bool
     last == first
 }
 
-// The piece's runs behind the output's, without its first where that is dropped.
+// The piece's runs behind the output's, without its first where that is dropped: of a piece without equal neighbours.
 fn fill_appended(out: &mut [u64], used: usize, piece: &Shifted, drops: bool)
     requires { used + (length piece.now.list.runs.now - from_bool drops) ≤ length out.old }
     ensures { out.new ≡ paste out.old used (shifted piece.now.shift (drop (from_bool drops) (list_of piece.now.list))) (length piece.now.list.runs.now - from_bool drops) }
@@ -56,18 +59,38 @@ fn fill_appended(out: &mut [u64], used: usize, piece: &Shifted, drops: bool)
     }
 }
 
-// The piece behind the output, where both are as admitted.
+// The piece's runs behind the output's, merged: `total` runs then. A piece that has none to merge is moved as it is, which takes less time.
+fn fill_behind(
+    out: &mut [u64],
+    used: usize,
+    piece: &Shifted,
+    merged: usize,
+    drops: bool,
+    total: usize,
+)
+    requires { (FillsAll piece.now out.old used drops total) × (merged ≡ length (merge (list_of piece.now.list))) }
+    ensures { out.new ≡ over (merged_behind piece.now used out.old) out.old }
+{
+    if merged == piece.list.runs.len() {
+        fill_appended(out, used, piece, drops);
+    } else {
+        piece.fill_merged(out, used, drops, total);
+    }
+}
+
+// The piece behind the output, where both are as admitted; merged, the piece has so many runs.
 fn append_admitted(
     out: &mut [u64],
     used: usize,
     out_count: u32,
     piece: &Oriented,
+    merged: usize,
 ) -> Result<Appended, Refusal>
-    requires { Admitted out.old used out_count piece.now.runs.now piece.now.n }
+    requires { Admitted out.old used out_count piece.now.runs.now piece.now.n merged }
     ensures { (of_appended result, out.new) ≡ result_into (append_runs (take used out.old) out_count piece.now.runs.now piece.now.n piece.now.reversed) (out_count + piece.now.n - 1) out.old }
 {
     let drops = drops_first(&out[..used], piece);
-    let total = used + (piece.runs.len() - usize::from(drops));
+    let total = used + (merged - usize::from(drops));
     if out.len() < total {
         return Err(Refusal::Space);
     }
@@ -75,7 +98,7 @@ fn append_admitted(
         list: *piece,
         shift: out_count - 1,
     };
-    fill_appended(out, used, &moved, drops);
+    fill_behind(out, used, &moved, merged, drops, total);
     Ok(Appended {
         runs: total,
         vertices: out_count + (piece.n - 1),
@@ -102,13 +125,13 @@ pub fn append_color_runs(
     if !is_joinable(&out[..used], out_count) {
         return Err(Refusal::Runs);
     }
-    if !orders::is_sharp(piece, piece_count) {
+    let Some(merged) = orders::merged_count(piece, piece_count) else {
         return Err(Refusal::Runs);
-    }
+    };
     let oriented = Oriented {
         runs: piece,
         n: piece_count,
         reversed,
     };
-    append_admitted(out, used, out_count, &oriented)
+    append_admitted(out, used, out_count, &oriented, merged)
 }

@@ -1,86 +1,110 @@
 // Steady and sharp lists, and where their runs end.
-ghost use Rattle.std.specs.Prelude.{◌≡◌, ◌+◌, ◌-◌, ◌*◌, ◌<◌, ◌≤◌, length, eqb, MatchResult};
+ghost use Rattle.std.specs.Prelude.{◌≡◌, ◌+◌, ◌-◌, ◌*◌, ◌^◌, ◌<◌, ◌≤◌, length, MatchResult};
 ghost use Rattle.runs.specs.Colours.{end_at, last_coord};
 ghost use Rattle.runs.specs.Orders.{steady, sharp};
 ghost use Rattle.runs.specs.Inside.Lists.{Taken};
 ghost use Rattle.runs.specs.Inside.Refusals.{IsTurnedDown};
-ghost use Rattle.runs.specs.Inside.Falls.{Testable, fall, falls, of_eight, spaced};
+ghost use Rattle.runs.specs.Inside.Falls.{Countable, Testable, mark, total, of_eight, framed, spaced};
+ghost use Rattle.runs.specs.Merge.{merged_count};
 
 use crate::listed::Runs;
 use crate::words;
 use base::Refusal;
 
-// A list, and how many vertices each run is to begin behind the one before it, at least: none in a steady list, one in a sharp one.
+// A list, and how many vertices each run is to begin behind the one before it, at least: none in a steady list, one in a sharp one. Where it
+// begins fewer behind, the list falls. Of each place is counted 1 where the list falls, and WEIGHT where two neighbours have one coordinate.
 #[derive(Drop)]
-struct Spacing<R: Runs> {
+struct Places<R: Runs> {
     runs: R,
     step: u64,
     ghost testable: { Testable step (R.list runs) },
 }
 
-impl<R: Runs> Spacing<R> {
-    // 1 where the list falls at place p, that is, run p + 1 begins less than `step` vertices behind run p; otherwise 0. A number, so
-    // that several are counted at a time.
-    fn fall_at(&self, p: usize) -> u64
-        requires { p + 1 < length (R.list self.now.runs) }
-        ensures { (result ≡ fall self.now.step (R.list self.now.runs) p) × (result ≤ 1) }
+impl<R: Runs> Places<R> {
+    // What is counted at place p, between runs p and p + 1. A number, so that several are counted at a time.
+    fn mark_at<const WEIGHT: u64>(&self, p: usize) -> u64
+        requires { (p + 1 < length (R.list self.now.runs)) × Countable WEIGHT (R.list self.now.runs) }
+        ensures { (result ≡ mark self.now.step WEIGHT (R.list self.now.runs) p) × (result ≤ 1 + WEIGHT) }
     {
-        let begin = self.runs.run_at(p) % 16777216;
-        let next = self.runs.run_at(p + 1) % 16777216;
-        (begin + (16777215 + self.step) - next) / 16777216
+        let run = self.runs.run_at(p);
+        let next = self.runs.run_at(p + 1);
+        let fall = (run % 16777216 + (16777215 + self.step) - next % 16777216) / 16777216;
+        let alike = run / 16777216 == next / 16777216;
+        fall + WEIGHT * u64::from(alike)
     }
 
-    // At how many of eight places, each `apart` behind the one before. Eight are written out, so that they are read side by side.
-    fn falls_of_eight(&self, p: usize, apart: usize) -> u64
-        requires { 7 * apart + p + 1 < length (R.list self.now.runs) }
-        ensures { (result ≡ of_eight self.now.step (R.list self.now.runs) apart p) × (result ≤ 8) }
+    // At eight places, each `apart` behind the one before. Eight are written out, so that they are read side by side.
+    fn marks_of_eight<const WEIGHT: u64>(&self, p: usize, apart: usize) -> u64
+        requires { (0 < apart) × (7 * apart + p + 1 < length (R.list self.now.runs)) × Countable WEIGHT (R.list self.now.runs) }
+        ensures { result ≡ of_eight (mark self.now.step WEIGHT (R.list self.now.runs)) apart p }
     {
-        self.fall_at(p)
-            + self.fall_at(apart + p)
-            + self.fall_at(2 * apart + p)
-            + self.fall_at(3 * apart + p)
-            + self.fall_at(4 * apart + p)
-            + self.fall_at(5 * apart + p)
-            + self.fall_at(6 * apart + p)
-            + self.fall_at(7 * apart + p)
+        self.mark_at::<WEIGHT>(p)
+            + self.mark_at::<WEIGHT>(apart + p)
+            + self.mark_at::<WEIGHT>(2 * apart + p)
+            + self.mark_at::<WEIGHT>(3 * apart + p)
+            + self.mark_at::<WEIGHT>(4 * apart + p)
+            + self.mark_at::<WEIGHT>(5 * apart + p)
+            + self.mark_at::<WEIGHT>(6 * apart + p)
+            + self.mark_at::<WEIGHT>(7 * apart + p)
     }
 
-    // At how many of the first 8 * `eighth` places. Eight parts are read side by side: so a list in far memory is read sooner.
-    fn falls_in_eighths(&self, eighth: usize) -> u64
-        requires { 8 * eighth < length (R.list self.now.runs) }
-        ensures { result ≡ falls self.now.step (R.list self.now.runs) 0 (8 * eighth) }
+    // At the first 8 * `eighth` places. Eight parts are read side by side: so a list in far memory is read sooner.
+    fn marks_in_eighths<const WEIGHT: u64>(&self, eighth: usize) -> u64
+        requires { (8 * eighth < length (R.list self.now.runs)) × Countable WEIGHT (R.list self.now.runs) }
+        ensures { result ≡ total (mark self.now.step WEIGHT (R.list self.now.runs)) 0 (8 * eighth) }
     {
-        (0..eighth).map(|i| self.falls_of_eight(i, eighth)).sum()
+        (0..eighth)
+            .map(
+                |i|
+                    requires { (i < eighth) × Countable WEIGHT (R.list self.now.runs) × (8 * eighth < length (R.list self.now.runs)) }
+                    ensures { result ≡ of_eight (mark self.entry.now.step WEIGHT (R.list self.entry.now.runs)) eighth i }
+                { self.marks_of_eight::<WEIGHT>(i, eighth) },
+            )
+            .sum()
     }
 
-    // At how many places from `from` on.
-    fn falls_from(&self, from: usize) -> u64
-        requires { from < length (R.list self.now.runs) }
-        ensures { result ≡ falls self.now.step (R.list self.now.runs) from (length (R.list self.now.runs) - 1 - from) }
+    // At the places from `from` on.
+    fn marks_from<const WEIGHT: u64>(&self, from: usize) -> u64
+        requires { (from < length (R.list self.now.runs)) × Countable WEIGHT (R.list self.now.runs) }
+        ensures { result ≡ total (mark self.now.step WEIGHT (R.list self.now.runs)) from (length (R.list self.now.runs) - 1 - from) }
     {
-        (from..self.runs.count() - 1).map(|p| self.fall_at(p)).sum()
+        (from..self.runs.count() - 1)
+            .map(
+                |p|
+                    requires { (p + 1 < length (R.list self.now.runs)) × Countable WEIGHT (R.list self.now.runs) }
+                    ensures { result ≡ mark self.entry.now.step WEIGHT (R.list self.entry.now.runs) p }
+                { self.mark_at::<WEIGHT>(p) },
+            )
+            .sum()
     }
 
-    // Whether each run begins at least `step` vertices behind the one before it.
-    fn is_rising(&self) -> bool
-        requires { 0 < length (R.list self.now.runs) }
-        ensures { result ≡ eqb (falls self.now.step (R.list self.now.runs) 0 (length (R.list self.now.runs) - 1)) 0 }
+    // At all places.
+    fn marks<const WEIGHT: u64>(&self) -> u64
+        requires { (0 < length (R.list self.now.runs)) × Countable WEIGHT (R.list self.now.runs) }
+        ensures { result ≡ total (mark self.now.step WEIGHT (R.list self.now.runs)) 0 (length (R.list self.now.runs) - 1) }
     {
         let eighth = (self.runs.count() - 1) / 8;
-        self.falls_in_eighths(eighth) == 0 && self.falls_from(8 * eighth) == 0
+        self.marks_in_eighths::<WEIGHT>(eighth) + self.marks_from::<WEIGHT>(8 * eighth)
     }
 
-    // Whether the first run begins at vertex 0, each at least `step` vertices behind the one before it, and the last at least `step`
-    // vertices before n.
-    fn is_spaced(&self, n: u32) -> bool
+    // Whether the first run begins at vertex 0, and the last at least `step` vertices before n.
+    fn is_framed(&self, n: u32) -> bool
         requires { 0 < length (R.list self.now.runs) }
-        ensures { result ≡ spaced self.now.step n (R.list self.now.runs) }
+        ensures { result ≡ framed self.now.step n (R.list self.now.runs) }
     {
         words::offset(self.runs.run_at(0)) == 0
-            && self.is_rising()
             && u64::from(words::offset(self.runs.run_at(self.runs.count() - 1))) + self.step
                 <= u64::from(n)
     }
+}
+
+// Whether a list is framed, and no run of it begins less than `step` vertices behind the one before it.
+fn is_spaced<R: Runs>(runs: R, step: u64, n: u32) -> bool
+    requires { (0 < length (R.list runs)) × (length (R.list runs) < 2 ^ 61) × (step ≤ 1) }
+    ensures { result ≡ spaced step n (R.list runs) }
+{
+    let places = Places { runs, step };
+    places.is_framed(n) && places.marks::<0>() == 0
 }
 
 // Whether a list is sharp for n vertices.
@@ -88,7 +112,7 @@ impl<R: Runs> Spacing<R> {
 pub(crate) fn are_sharp<R: Runs>(runs: R, n: u32) -> bool
     ensures { result ≡ sharp n (R.list runs) }
 {
-    0 < runs.count() && Spacing { runs, step: 1 }.is_spaced(n)
+    0 < runs.count() && is_spaced(runs, 1, n)
 }
 
 // Whether the list is steady for n vertices.
@@ -96,7 +120,7 @@ pub(crate) fn are_sharp<R: Runs>(runs: R, n: u32) -> bool
 pub fn is_steady(runs: &[u64], n: u32) -> bool
     ensures { result ≡ steady n runs.now }
 {
-    runs.is_empty() || Spacing { runs, step: 0 }.is_spaced(n)
+    runs.is_empty() || is_spaced(runs, 0, n)
 }
 
 // Whether the list is sharp for n vertices.
@@ -104,6 +128,25 @@ pub fn is_sharp(runs: &[u64], n: u32) -> bool
     ensures { result ≡ sharp n runs.now }
 {
     are_sharp(runs, n)
+}
+
+// How many runs the list has once its equal neighbours are merged, or none where it isn't sharp for n vertices: one pass makes the test and
+// the count. Its marks are told apart, since a sharp list has no more runs than vertices.
+pub fn merged_count(runs: &[u64], n: u32) -> Option<usize>
+    ensures { result ≡ merged_count n runs.now }
+{
+    if runs.is_empty() || (n as usize) < runs.len() {
+        return None;
+    }
+    let places = Places { runs, step: 1 };
+    if !places.is_framed(n) {
+        return None;
+    }
+    let marks = places.marks::<4294967296>();
+    if marks % 4294967296 != 0 {
+        return None;
+    }
+    Some(runs.len() - (marks / 4294967296) as usize)
 }
 
 // Whether reverse and rotate take the list: 7, a vertex count above its limit, then 6, not steady.

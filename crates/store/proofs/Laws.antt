@@ -25,7 +25,7 @@ pub mod Shows
 -- Lists of calls: demand 3.
 pub mod Trace
 pub mod Accepted
-pub mod Lines
+pub mod Totals
 pub mod Demand
 pub mod Proved
 pub mod History

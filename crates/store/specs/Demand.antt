@@ -1,5 +1,5 @@
 -- Section 7 of 01: lists of calls on the store over its buffers, and demand 3 of such a list.
-use Rattle.std.specs.Prelude.{ℕ, ◌+◌, ◌-◌, ◌*◌, ◌≡◌, List, [], ◌∷◌, ◌++◌, map, length, get_or, take, drop, eqb}
+use Rattle.std.specs.Prelude.{ℕ, ◌+◌, ◌*◌, ◌<◌, ◌≡◌, List, [], ◌∷◌, ◌++◌, map, length, get_or, take, drop, eqb}
 use Rattle.std.proofs.Math.Option.{Option, none, some}
 use Rattle.base.specs.Tests.{◌when◌else◌}
 use Rattle.base.specs.Answers.{Answer, refused, done}
@@ -8,7 +8,8 @@ use Rattle.codec.specs.Records.{file_of}
 use Rattle.codec.specs.Index.{index_of, entries}
 use Rattle.runs.specs.Bytes.{ReadRuns, read_runs}
 use Rattle.runs.specs.Bytes as bytes
-use Rattle.store.specs.Plain.{Way, line, cycle, Update, add, join, close, Call, update, show, Unitig, Lengths, plain_fresh, Reply, refusal, answer, shown, plain_run, coord_at, bytes_of, closed_bytes}
+use Rattle.runs.specs.Rotate.{merged}
+use Rattle.store.specs.Plain.{Way, line, cycle, Update, add, join, close, Call, update, show, Unitig, Lengths, plain_fresh, Reply, refusal, answer, shown, plain_run, no_unitig, coord_at, bytes_of, closed_bytes}
 use Rattle.store.specs.State.{CellBufs, SharedBufs, Bufs, lengths_of, Outcome}
 use Rattle.store.specs.Start.{start_step}
 use Rattle.store.specs.Add.{add_step}
@@ -112,18 +113,14 @@ set_for coord ((a, add ids) ∷ us) = some ids when eqb a coord else set_for coo
 set_for coord ((a, join n r piece) ∷ us) = set_for coord us
 set_for coord ((a, close w) ∷ us) = set_for coord us
 
--- the runs of the open unitig with a piece of so many: less one for each join after its first piece
-unfoldable pub with_piece : Option ℕ → ℕ → ℕ
-with_piece none new = new
-with_piece (some old) new = old + new - 1
+-- how often the coordinate changes from one vertex to the next, and so behind a vertex of coordinate c
+unfoldable pub changes_behind : ℕ → List ℕ → ℕ
+changes_behind c [] = 0
+changes_behind c (d ∷ ds) = (0 when eqb c d else 1) + changes_behind d ds
 
--- for each closed unitig: how many runs were sent for it, so counted, if it was closed as a line
-unfoldable pub line_runs : Option ℕ → List (ℕ × Update) → List (Option ℕ)
-line_runs opened [] = []
-line_runs opened ((a, add ids) ∷ us) = line_runs opened us
-line_runs opened ((a, join n r piece) ∷ us) = line_runs (some (with_piece opened (length piece))) us
-line_runs opened ((a, close line) ∷ us) = opened ∷ line_runs none us
-line_runs opened ((a, close (cycle pivot)) ∷ us) = none ∷ line_runs none us
+unfoldable pub changes_in : List ℕ → ℕ
+changes_in [] = 0
+changes_in (c ∷ cs) = changes_behind c cs
 
 -- ---- demand 3 of one list of calls and its run r by the store
 
@@ -165,11 +162,16 @@ pub record UnitigsKept (us : List Unitig) (s : Shared) (b : SharedBufs) : Type 0
 abbrev pub runs_of : Shared → SharedBufs → ℕ → ReadRuns
 runs_of s b unitig = read_runs (drop (get_or b.table (2 * unitig) 0) (take s.runs.used b.runs))
 
--- a closed line has the runs sent for it less one for each join after its first piece
-abbrev pub LinesSent : List (ℕ × Update) → Shared → SharedBufs → Type 0
-LinesSent accepted s b =
-    (unitig count : ℕ) → get_or (line_runs none accepted) unitig none ≡ some count
-    → (ws rest : List ℕ) × (runs_of s b unitig ≡ bytes.found ws rest) × (length ws ≡ count)
+-- a closed line, as a cycle, has its coordinates' runs, equal neighbours merged: their total is 1 plus its changes of coordinate (request F-9)
+abbrev pub RunsMerged : List Unitig → Shared → SharedBufs → Type 0
+RunsMerged us s b =
+    (unitig : ℕ) → unitig < length us
+    → let coords = (get_or us unitig no_unitig).coords in
+    (rest : List ℕ) × (runs_of s b unitig ≡ bytes.found (merged coords) rest) × (length (merged coords) ≡ 1 + changes_in coords)
+
+-- and so have the open runs
+abbrev pub OpenMerged : Option Unitig → Cell → CellBufs → Type 0
+OpenMerged current c b = (u : Unitig) → current ≡ some u → (take c.opened.used b.opened ≡ merged u.coords) × (c.opened.used ≡ 1 + changes_in u.coords)
 
 pub record Demand3 (N W : ℕ) (lengths : Lengths) (calls : List LentCall) (r : List Seen × Store × Bufs) : Type 0 where
   -- every answer, and every output of show, is the plain store's
@@ -180,7 +182,9 @@ pub record Demand3 (N W : ℕ) (lengths : Lengths) (calls : List LentCall) (r : 
   pub records : RecordsKept N (sets_in (accepted_from 0 calls r.0)) r.1.cell r.2.cell
   -- the run file and the table are the closed unitigs'
   pub unitigs : UnitigsKept (plain_run (plain_fresh N W lengths) (map sent calls)).1.closed r.1.shared r.2.shared
-  pub lines : LinesSent (accepted_from 0 calls r.0) r.1.shared r.2.shared
+  -- their runs, and the open ones, are merged
+  pub opened : OpenMerged (plain_run (plain_fresh N W lengths) (map sent calls)).1.cell.current r.1.cell r.2.cell
+  pub merged : RunsMerged (plain_run (plain_fresh N W lengths) (map sent calls)).1.closed r.1.shared r.2.shared
 
 -- the claim: after an accepted start, of every list of calls
 abbrev pub DemandStatement : Type 0

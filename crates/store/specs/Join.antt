@@ -1,4 +1,4 @@
--- "What each operation turns down" of 01: join. 7, 6, 9, 5, 8, 3; the held piece as sent and the new open runs.
+-- "What each operation turns down" of 01, with request F-9: join. 7, 6, 9, 5, 8, 3; the held piece as sent and the new open runs, of which equal neighbours are merged.
 use Rattle.std.specs.Prelude.{ℕ, ◌+◌, ◌-◌, Bool, true, false, not, ◌||◌, ◌&&◌, List, [], ◌∷◌, length, take, ltb, eqb, Ok, Err}
 use Rattle.base.specs.Answers.{Answer, done, refused}
 use Rattle.base.specs.Parts.{over}
@@ -6,6 +6,7 @@ use Rattle.base.specs.Tests.{◌when◌else◌}
 use Rattle.base.specs.declared.Refusal.TheVariants.{Coordinate, Damaged, Junction, Runs, Space, Vertices}
 use Rattle.codec.specs.Records.{same}
 use Rattle.runs.specs.Append.{appendix}
+use Rattle.runs.specs.Merge.{merge}
 use Rattle.runs.specs.Colours.{first_coord, last_coord}
 use Rattle.runs.specs.Orders.{most_vertices, sharp}
 use Rattle.runs.specs.Reverse.{oriented}
@@ -40,13 +41,13 @@ unfoldable pub open_count : Current → ℕ → ℕ
 open_count Nothing n = n
 open_count (Open m) n = m + n - 1
 
--- where new open runs go, and what they are; the piece is oriented
+-- where new open runs go, and what they are: the oriented piece's runs, merged, also behind the last open run (request F-9)
 unfoldable pub open_at : Current → ℕ → ℕ
 open_at Nothing used = 0
 open_at (Open m) used = used
 
 unfoldable pub open_new : Current → List ℕ → List ℕ → List ℕ
-open_new Nothing old piece = piece
+open_new Nothing old piece = merge piece
 open_new (Open m) old piece = appendix (last_coord old) m piece
 
 -- ---- tests

@@ -1,4 +1,4 @@
--- Section 7 of 01, with requests F-1, F-2 and F-5: the plain store. It shares no test with the store over its buffers.
+-- Section 7 of 01, with requests F-1, F-2, F-5 and F-9: the plain store. It shares no test with the store over its buffers.
 use Rattle.std.specs.Prelude.{ℕ, zero, suc, ◌+◌, ◌-◌, ◌*◌, ◌/◌, ◌%◌, Bool, true, false, not, ◌||◌, ◌&&◌, List, [], ◌∷◌, ◌++◌, filter, map, reverse, length, get_or, take, drop, ltb, leb, eqb}
 use Rattle.std.proofs.Math.Option.{Option, none, some}
 use Rattle.base.specs.Tests.{◌when◌else◌}
@@ -129,9 +129,18 @@ expanded n piece = record { coords = colours n piece; starts = runs.starts piece
 unfoldable pub turned_round : ℕ → Unitig → Unitig
 turned_round n u = record { coords = reverse u.coords; starts = 0 ∷ reverse (map (λ (s : ℕ). n - s) (inner_starts u.starts)) }
 
+-- whether a vertex has the coordinate of the one before
+unfoldable pub like_before : List ℕ → ℕ → Bool
+like_before cs zero = false
+like_before cs (suc v) = eqb (get_or cs v 0) (get_or cs (suc v) 0)
+
+-- a start vanishes where its vertex has the coordinate of the one before (request F-9)
+unfoldable pub neighbours_merged : Unitig → Unitig
+neighbours_merged u = record { coords = u.coords; starts = filter (λ (s : ℕ). not (like_before u.coords s)) u.starts }
+
 unfoldable pub piece_of : ℕ → Bool → List ℕ → Unitig
-piece_of n true piece = turned_round n (expanded n piece)
-piece_of n false piece = expanded n piece
+piece_of n true piece = neighbours_merged (turned_round n (expanded n piece))
+piece_of n false piece = neighbours_merged (expanded n piece)
 
 -- none open: this is it. Otherwise drop the piece's first vertex and its start 0, shift the other starts by open count - 1, and add
 unfoldable pub joined : Option Unitig → Unitig → Unitig

@@ -1,6 +1,8 @@
 // Join: a piece behind a cell's open unitig, or the first of a new one.
 // `as` stands once: no `From` leads from u64 to u32, and the count is proved to fit.
-ghost use Rattle.std.specs.Prelude.{◌≡◌, ◌<◌, length};
+ghost use Rattle.std.specs.Prelude.{◌≡◌, ◌<◌, ◌≤◌, length};
+ghost use Rattle.runs.specs.Merge.{merge};
+ghost use Rattle.runs.specs.Orders.{most_vertices};
 ghost use Rattle.store.specs.State.{bufs, of_answer};
 ghost use Rattle.store.specs.Join.{all_named, same_join, open_count, open_at, open_space, join_test, join_filed, join_cell, join_step};
 ghost use Rattle.store.specs.Inside.Fits.{JoinFits, JoinReady, OpenReady, open_after};
@@ -17,6 +19,16 @@ struct Piece<'a> {
     n: u32,
     reversed: bool,
     runs: &'a [u64],
+}
+
+// A sharp one, and how many runs it has once equal neighbours are merged.
+#[derive(Clone, Copy)]
+struct SharpPiece<'a> {
+    sent: Piece<'a>,
+    merged: usize,
+    ghost few: { sent.n ≤ most_vertices },
+    ghost some: { 0 < length sent.runs.now },
+    ghost count: { merged ≡ length (merge sent.runs.now) },
 }
 
 impl Cell {
@@ -65,13 +77,14 @@ impl OpenRuns<'_> {
         Ok(())
     }
 
-    // With an open unitig of m vertices: refusal 5, its runs not sharp; 8, the piece begins elsewhere; 3, no space.
-    #[tactic(auto, using(base::proofs::Tests::tests, crate::proofs::Laws::Joining::new_runs, runs::proofs::Laws::Reverse::oriented_long), unfolding(crate::specs::Join::open_test))]
-    fn meet_open(self, m: u32, piece: Piece) -> Result<(), Refusal>
-        requires { (self.cell.current ≡ Current.Open m) × (0 < length piece.runs.now) }
-        ensures { result ≡ of_piece (meet_test self.entry.cell self.entry.runs.now) piece.entry }
+    // With an open unitig of m vertices: refusal 5, its runs not sharp; 8, the piece begins elsewhere; 3, no space for it. It begins on the
+    // last open coordinate, and so loses its first run.
+    #[tactic(auto, using(base::proofs::Tests::tests, crate::proofs::Laws::Joining::new_behind), unfolding(crate::specs::Join::open_test))]
+    fn meet_open(self, m: u32, piece: SharpPiece) -> Result<(), Refusal>
+        requires { self.cell.current ≡ Current.Open m }
+        ensures { result ≡ of_piece (meet_test self.entry.cell self.entry.runs.now) piece.entry.sent }
     {
-        let Piece { n, reversed, runs } = piece;
+        let Piece { n, reversed, runs } = piece.sent;
         if !runs::orders::is_sharp(self.runs, m) {
             return Err(Refusal::Damaged);
         }
@@ -80,36 +93,38 @@ impl OpenRuns<'_> {
         {
             return Err(Refusal::Junction);
         }
-        self.open_space(runs.len() - 1, runs.len())
+        self.open_space(piece.merged - 1, runs.len())
     }
 
     // Refusals 5, 8 where a unitig is open; then 3, no space.
-    #[tactic(auto, using(base::proofs::Tests::tests, runs::proofs::Laws::Reverse::oriented_long), unfolding(crate::specs::Join::open_test, crate::specs::Join::open_new))]
-    fn meet(self, piece: Piece) -> Result<(), Refusal>
-        requires { 0 < length piece.runs.now }
-        ensures { result ≡ of_piece (meet_test self.entry.cell self.entry.runs.now) piece.entry }
+    #[tactic(auto, using(base::proofs::Tests::tests, crate::proofs::Laws::Joining::new_first), unfolding(crate::specs::Join::open_test))]
+    fn meet(self, piece: SharpPiece) -> Result<(), Refusal>
+        ensures { result ≡ of_piece (meet_test self.entry.cell self.entry.runs.now) piece.entry.sent }
     {
         match self.cell.current {
-            Current::Nothing => self.open_space(piece.runs.len(), piece.runs.len()),
+            Current::Nothing => self.open_space(piece.merged, piece.sent.runs.len()),
             Current::Open(m) => self.meet_open(m, piece),
         }
     }
 
     // Refusal 7, vertex count; 6, not sharp; 9, a coordinate that names no set; then 5, 8, 3.
-    #[tactic(auto, using(base::proofs::Tests::tests, crate::proofs::Laws::Joining::some_runs, crate::proofs::Laws::Parts::take_whole), unfolding(crate::specs::Join::join_test))]
+    #[tactic(auto, using(base::proofs::Tests::tests, crate::proofs::Laws::Parts::take_whole), unfolding(crate::specs::Join::join_test))]
     fn join_test(self, piece: Piece) -> Result<(), Refusal>
         ensures { result ≡ of_piece (join_test self.entry.cell self.entry.runs.now) piece.entry }
     {
         if piece.n == 0 || 16777215 < self.cell.new_count(piece.n) {
             return Err(Refusal::Vertices);
         }
-        if !runs::orders::is_sharp(piece.runs, piece.n) {
+        let Some(merged) = runs::orders::merged_count(piece.runs, piece.n) else {
             return Err(Refusal::Runs);
-        }
+        };
         if !self.cell.all_named(piece.runs) {
             return Err(Refusal::Coordinate);
         }
-        self.meet(piece)
+        self.meet(SharpPiece {
+            sent: piece,
+            merged,
+        })
     }
 }
 
@@ -122,7 +137,7 @@ impl Cell {
         let Piece { n, reversed, runs } = piece;
         match self.current {
             Current::Nothing => {
-                runs::reverse::orient_color_runs(runs, n, reversed, opened).unwrap()
+                runs::merge::merge_color_runs(runs, n, reversed, opened).unwrap()
             }
             Current::Open(m) => {
                 let used = self.opened.used;

@@ -60,7 +60,11 @@ impl Random {
                 match self.below(6) {
                     0 => one.records = short.records,
                     1 => one.index = short.index,
+                    // Often so short that usual pieces fit merged and not as sent.
+                    2 if self.flip() => one.open = self.between(1, 6),
                     2 => one.open = short.open,
+                    // Often shorter than usual pieces as sent and not than their merged runs.
+                    3 if self.flip() => one.held = self.between(1, 5),
                     3 => one.held = short.held,
                     // A unitig that doesn't fit stays open, so that a longer run file is seldom filled: often one unitig's bytes.
                     4 if self.flip() => one.runs = 1 + 8 * self.between(1, 4),
@@ -254,6 +258,7 @@ impl Random {
             .iter()
             .map(|&at| pack(at, self.named(plain)))
             .collect();
+        self.cut_finely(&mut runs);
         let end = runs.len() - 1;
         let (first, last) = if reverse { (end, 0) } else { (0, end) };
         if back {
@@ -266,6 +271,15 @@ impl Random {
             runs[first] = pack(offset(runs[first]), named);
         }
         self.spoiled_piece(n, count, reverse, runs, plain)
+    }
+
+    /// Gives some runs the coordinate of the one before. With those that have it by chance, these are about half.
+    fn cut_finely(&mut self, runs: &mut [u64]) {
+        for i in 1..runs.len() {
+            if self.below(5) < 2 {
+                runs[i] = pack(offset(runs[i]), coordinate(runs[i - 1]));
+            }
+        }
     }
 
     /// Where a run starts that ends a piece of `n` vertices, or begins one that is sent reversed: often of one vertex. `n` is above 1.
@@ -323,7 +337,7 @@ impl Random {
                 4 => ids.clear(),
                 _ => return Deed::Close(self.way(plain.open.as_ref())),
             },
-            Deed::Join { n, reverse, runs } => match self.below(6) {
+            Deed::Join { n, reverse, runs } => match self.below(7) {
                 0 => *n = n.wrapping_add(1),
                 1 => *reverse = !*reverse,
                 2 => {
@@ -331,6 +345,8 @@ impl Random {
                 }
                 3 => runs[0] ^= 1 << self.below(64),
                 4 => runs.push(runs[0]),
+                // Its merged runs, of which the open ones would be the same.
+                5 => runs.dedup_by_key(|run| coordinate(*run)),
                 _ => return self.set_of(plain.n),
             },
             Deed::Close(way) => {

@@ -300,6 +300,20 @@ pub fn reverse_runs(run: &mut Run, runs: &[u64], n: u32) {
     }
 }
 
+/// Up to so many runs of a piece, its append is tried in every size.
+const FEW: usize = 8;
+
+/// The sizes to lend behind the output: of a piece of few runs also each one up to the runs as sent, so that none between those and
+/// the merged runs is passed over.
+fn append_sizes(needed: usize, sent: usize) -> Vec<usize> {
+    let mut sizes = sizes(needed);
+    if sent <= FEW {
+        sizes.retain(|&size| size > sent);
+        sizes.extend(0..=sent);
+    }
+    sizes
+}
+
 /// The arguments of an append but for the space behind the output.
 #[derive(Debug, Clone, Copy)]
 pub struct Append<'a> {
@@ -338,7 +352,7 @@ pub fn append_runs(run: &mut Run, given: Append) {
     for reference in builds() {
         let seen = reference.append_runs(output, output_count, piece, piece_count, reverse);
         len = len.or(len_of(&seen));
-        run.judged(judge::append_runs(output, &want, &seen), || {
+        run.judged(judge::append_runs(output, piece, &want, &seen), || {
             format!(
                 "{}: {:?} saw {seen:X?}, wanted {want:X?}",
                 case(),
@@ -364,7 +378,7 @@ pub fn append_runs(run: &mut Run, given: Append) {
         );
     }
     let needed = want.as_ref().map_or(2, |(new, _)| new.len());
-    for size in sizes(needed) {
+    for size in append_sizes(needed, piece.len()) {
         let short = want.is_ok() && size < needed;
         if short {
             let beyond = len.is_some_and(|len| len > used + size);

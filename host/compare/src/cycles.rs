@@ -2,7 +2,7 @@
 
 use crate::lists::List;
 use model::calls::{Call, Clause, Deed, Way};
-use model::runs::offset;
+use model::runs::{coordinate, offset, oriented};
 
 /// What is counted. A run of lists should meet each.
 pub const CYCLES: [&str; 8] = [
@@ -16,7 +16,8 @@ pub const CYCLES: [&str; 8] = [
     "shows of a cycle's dropped vertex",
 ];
 
-/// The open unitig, by its pieces: how many vertices it has, and where its last run starts.
+/// The open unitig, by its pieces: how many vertices it has, and where its last run starts, which is the last vertex unlike the one
+/// before it.
 #[derive(Default)]
 struct Open {
     count: u32,
@@ -25,15 +26,12 @@ struct Open {
 
 impl Open {
     fn join(&mut self, n: u32, reverse: bool, runs: &[u64]) {
-        let start = if reverse {
-            runs.get(1).map_or(0, |&run| n - offset(run))
-        } else {
-            runs.last().map_or(0, |&run| offset(run))
-        };
-        // A later piece begins on the last vertex.
+        // A later piece begins on the last vertex, with its coordinate.
         let shift = self.count.saturating_sub(1);
-        if start > 0 {
-            self.last = shift + start;
+        for pair in oriented(runs, n, reverse).windows(2) {
+            if coordinate(pair[0]) != coordinate(pair[1]) {
+                self.last = shift + offset(pair[1]);
+            }
         }
         self.count = shift + n;
     }

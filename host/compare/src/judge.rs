@@ -3,11 +3,12 @@
 
 use crate::reference::{Build, Outcome};
 use model::records::{limit_ids, prefix_of, read_any, record_of};
+use model::runs::{coordinate, has_equal_neighbours, is_steady, offset};
 use model::{NoSet, Why};
 use std::io::ErrorKind::{InvalidData, InvalidInput, UnexpectedEof};
 
 /// The classes of difference, in the order of docs/DIFFERENCES.md.
-pub const CLASSES: [&str; 23] = [
+pub const CLASSES: [&str; 24] = [
     "space",
     "colors-limit",
     "ids-not-ascending",
@@ -31,6 +32,7 @@ pub const CLASSES: [&str; 23] = [
     "append-counts",
     "append-output",
     "append-piece",
+    "append-merged",
 ];
 
 #[derive(Debug, Clone, Copy, PartialEq, Eq)]
@@ -253,20 +255,52 @@ pub fn list(
     }
 }
 
-/// The reference's answer has the output's runs before the new ones, and no vertex count.
+/// The reference's answer has the output's runs before the new ones, and no vertex count. It has exactly the runs wanted where the
+/// piece has no equal neighbours; otherwise never, but the same colours.
 pub fn append_runs(
     output: &[u64],
+    piece: &[u64],
     want: &Result<(Vec<u64>, u64), Why>,
     seen: &Outcome<Vec<u64>>,
 ) -> Verdict {
     let goes_on = matches!(seen, Outcome::Gave(_) | Outcome::Panicked);
     match want {
+        Ok((new, vertices)) if has_equal_neighbours(piece) => {
+            class_if("append-merged", only_merged(output, new, *vertices, seen))
+        }
         Ok((new, _)) => same_if(gave(seen, &[output, new].concat())),
         Err(Why::Vertices) => class_if("append-counts", goes_on),
         Err(Why::Output) => class_if("append-output", goes_on),
         Err(Why::Piece) => class_if("append-piece", goes_on),
         Err(_) => Unknown,
     }
+}
+
+/// Whether what was seen is a list of the same colours as the output with the new runs, and another one; and whether no new run has
+/// the coordinate of the run before it, which for the first one is the output's last.
+fn only_merged(output: &[u64], new: &[u64], vertices: u64, seen: &Outcome<Vec<u64>>) -> bool {
+    let Outcome::Gave(runs) = seen else {
+        return false;
+    };
+    let wanted = [output, new].concat();
+    let from_last = &wanted[output.len().saturating_sub(1)..];
+    *runs != wanted
+        && is_steady(runs, vertices as u32)
+        && same_colours(runs, &wanted, vertices)
+        && !has_equal_neighbours(from_last)
+}
+
+/// Whether two steady lists give each of so many vertices the same colour. Where neither has a start, the colours are those of the
+/// vertex before.
+fn same_colours(one: &[u64], other: &[u64], vertices: u64) -> bool {
+    let mut starts = one.iter().chain(other).map(|&run| offset(run));
+    starts.all(|at| u64::from(at) >= vertices || colour_at(one, at) == colour_at(other, at))
+}
+
+/// The coordinate of the last run that starts at this vertex or before it.
+fn colour_at(runs: &[u64], vertex: u32) -> Option<u64> {
+    let behind = runs.partition_point(|&run| offset(run) <= vertex);
+    runs[..behind].last().map(|&run| coordinate(run))
 }
 
 pub fn write_runs(want: &Result<Vec<u8>, Why>, seen: &Outcome<Vec<u8>>) -> Verdict {

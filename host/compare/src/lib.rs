@@ -6,9 +6,9 @@
 //! - [`checks`]: one case of each operation through all sides.
 //! - [`sections`]: the cases of the differential runs; [`recorded`]: those that the program `cases` replays; [`files`]: the
 //!   record files that it compares.
-//! - [`calls`]: random calls of the store; [`lists`]: lists of them with what both models of the store answer; [`cycles`]: what
-//!   they do with cycles; [`commands`] and [`sessions`]: a list as the programs `roadfinch` and `sessions` read it, and what they
-//!   must answer.
+//! - [`calls`]: random calls of the store; [`lists`]: lists of them with what both models of the store answer; [`cycles`] and
+//!   [`merging`]: what they do with cycles and with equal neighbours; [`commands`] and [`sessions`]: a list as the programs
+//!   `roadfinch` and `sessions` read it, and what they must answer.
 
 pub mod calls;
 pub mod checks;
@@ -17,6 +17,7 @@ pub mod cycles;
 pub mod files;
 pub mod judge;
 pub mod lists;
+pub mod merging;
 pub mod proved;
 pub mod random;
 pub mod recorded;

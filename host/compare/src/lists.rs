@@ -319,7 +319,7 @@ pub fn number(told: &Told) -> u32 {
 }
 
 /// Whether state and buffers hold what the plain store holds: the accepted sets' records in order, with the index made afresh
-/// from them, and each unitig's coordinates and starts.
+/// from them, and each unitig's coordinates and starts; and whether each unitig's runs are 1 plus its changes of coordinate.
 fn same(plain: &Plain, state: &State, buffers: &Buffers) -> Result<(), String> {
     let used = state.used;
     let records: Vec<u8> = plain
@@ -357,6 +357,9 @@ fn same(plain: &Plain, state: &State, buffers: &Buffers) -> Result<(), String> {
         {
             return Err(format!("unitig {place}"));
         }
+        if runs.len() != 1 + changes(&unitig.coordinates) {
+            return Err(format!("unitig {place}: number of runs"));
+        }
     }
     if start != used.runs {
         return Err("run bytes".into());
@@ -367,7 +370,8 @@ fn same(plain: &Plain, state: &State, buffers: &Buffers) -> Result<(), String> {
             if n as usize == open.coordinates.len()
                 && buffers.open[..used.open as usize]
                     == runs_of(&open.coordinates, &open.starts)
-                && is_expanded(&buffers.open[..used.open as usize], &open.coordinates) =>
+                && is_expanded(&buffers.open[..used.open as usize], &open.coordinates)
+                && used.open as usize == 1 + changes(&open.coordinates) =>
         {
             Ok(())
         }
@@ -378,6 +382,12 @@ fn same(plain: &Plain, state: &State, buffers: &Buffers) -> Result<(), String> {
 fn runs_of(coordinates: &[u64], starts: &[u32]) -> Vec<u64> {
     let named = |&start: &u32| pack(start, coordinates[start as usize]);
     starts.iter().map(named).collect()
+}
+
+/// How many vertices have another coordinate than the one before.
+fn changes(coordinates: &[u64]) -> usize {
+    let pairs = coordinates.windows(2);
+    pairs.filter(|pair| pair[0] != pair[1]).count()
 }
 
 /// Whether each vertex has the coordinate of its run.

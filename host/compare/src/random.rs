@@ -1,6 +1,6 @@
 //! Random numbers that a seed repeats (SplitMix64), and the random inputs made of them.
 
-use model::runs::pack;
+use model::runs::{coordinate, offset, pack};
 
 pub struct Random(u64);
 
@@ -75,6 +75,15 @@ impl Random {
         self.coloured(&offsets)
     }
 
+    /// Gives half of the runs, or more where there were equal ones, the coordinate of the one before.
+    pub fn repeat(&mut self, runs: &mut [u64]) {
+        for i in 1..runs.len() {
+            if self.flip() {
+                runs[i] = pack(offset(runs[i]), coordinate(runs[i - 1]));
+            }
+        }
+    }
+
     /// Words that are a list of neither kind, most often.
     pub fn neither(&mut self, n: u32, most: u32) -> Vec<u64> {
         let count = 1 + self.below(u64::from(most.max(1))) as usize;
@@ -104,5 +113,15 @@ impl Random {
             .iter()
             .map(|&offset| pack(offset, self.coordinate()))
             .collect()
+    }
+}
+
+/// Gives each run that has the coordinate of the one before another one, of the same worker.
+pub fn part(runs: &mut [u64]) {
+    for i in 1..runs.len() {
+        let (before, named) = (coordinate(runs[i - 1]), coordinate(runs[i]));
+        if before == named {
+            runs[i] = pack(offset(runs[i]), named ^ 256);
+        }
     }
 }

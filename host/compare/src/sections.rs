@@ -2,11 +2,11 @@
 
 use crate::checks::{self, Append};
 use crate::proved;
-use crate::random::Random;
+use crate::random::{Random, part};
 use crate::run::Run;
 use model::MAX_VERTICES;
 use model::records::{prefix_of, record_of};
-use model::runs::pack;
+use model::runs::{coordinate, offset, pack};
 use model::sets::encode_set;
 use std::collections::HashMap;
 
@@ -21,6 +21,8 @@ pub fn all(run: &mut Run, times: u64, seed: u64) {
     run.section("prefixes", prefixes);
     run.section("indexes", |run| indexes(run, times, seed));
     run.section("all short run lists", small_lists);
+    run.section("all small pieces", small_pieces);
+    run.section("pieces with one repeat, or one change", single_repeats);
     run.section("run lists", |run| lists(run, times, seed));
     run.section("run lists at the vertex limit", |run| {
         long_lists(run, times, seed)
@@ -402,22 +404,111 @@ fn small_lists(run: &mut Run) {
         for piece in &short {
             for output_count in 0..4 {
                 for piece_count in 0..4 {
-                    for reverse in [false, true] {
-                        checks::append_runs(
-                            run,
-                            Append {
-                                output,
-                                output_count,
-                                piece,
-                                piece_count,
-                                reverse,
-                            },
-                        );
-                    }
+                    append_both_ways(run, (output, output_count), (piece, piece_count));
                 }
             }
         }
     }
+}
+
+/// Every sharp list of these two coordinates and up to six vertices: each vertex behind the first goes on with its run, repeats its
+/// coordinate in a run of its own, or has the other one.
+fn sharp_lists(one: u64, other: u64) -> Vec<(Vec<u64>, u32)> {
+    let mut lists = vec![(vec![pack(0, one)], 1), (vec![pack(0, other)], 1)];
+    let mut from = 0;
+    for at in 1..6 {
+        let to = lists.len();
+        for i in from..to {
+            let runs = lists[i].0.clone();
+            for named in [one, other] {
+                lists.push(([&runs[..], &[pack(at, named)]].concat(), at + 1));
+            }
+            lists.push((runs, at + 1));
+        }
+        from = to;
+    }
+    lists
+}
+
+/// A piece, appended as it is and reversed.
+fn append_both_ways(
+    run: &mut Run,
+    (output, output_count): (&[u64], u32),
+    (piece, piece_count): (&[u64], u32),
+) {
+    for reverse in [false, true] {
+        checks::append_runs(
+            run,
+            Append {
+                output,
+                output_count,
+                piece,
+                piece_count,
+                reverse,
+            },
+        );
+    }
+}
+
+/// Each such list as a piece, in both directions, behind outputs of one run and of several: equal neighbours of the output's own, and
+/// a run without a vertex, among them. The two coordinates differ in the worker alone, then in the record alone.
+fn small_pieces(run: &mut Run) {
+    for (a, b) in [(1, 2), (2, 258)] {
+        let outputs: [(&[u64], u32); 6] = [
+            (&[pack(0, a)], 1),
+            (&[pack(0, a)], 3),
+            (&[pack(0, a), pack(1, b)], 2),
+            (&[pack(0, a), pack(1, a)], 2),
+            (&[pack(0, b), pack(1, b), pack(2, b)], 4),
+            (&[pack(0, a), pack(0, b)], 1),
+        ];
+        for (piece, piece_count) in sharp_lists(a, b) {
+            for (output, output_count) in outputs {
+                append_both_ways(run, (output, output_count), (&piece, piece_count));
+            }
+        }
+    }
+}
+
+/// Of each number of runs, pieces in which one run alone repeats the coordinate before it, and in which one alone doesn't, at each
+/// place: code that takes several runs at a time has to see it anywhere.
+fn single_repeats(run: &mut Run) {
+    let output = [pack(0, 1)];
+    for count in 2..=40 {
+        for place in 1..count {
+            for repeats in [false, true] {
+                let mut named = 2;
+                let piece: Vec<u64> = (0..count)
+                    .map(|i| {
+                        if i > 0 && (i == place) != repeats {
+                            named += 256;
+                        }
+                        pack(3 * i, named)
+                    })
+                    .collect();
+                append_both_ways(run, (&output, 5), (&piece, 3 * count));
+            }
+        }
+    }
+}
+
+/// The list as a piece for this output: in three of four times half of its runs repeat the coordinate before them, otherwise none
+/// does; and half the time it then meets the output.
+fn as_piece(random: &mut Random, mut runs: Vec<u64>, output: &[u64], reverse: bool) -> Vec<u64> {
+    if random.below(4) == 0 {
+        part(&mut runs);
+    } else {
+        random.repeat(&mut runs);
+    }
+    let first = if reverse {
+        runs.last_mut()
+    } else {
+        runs.first_mut()
+    };
+    if let (Some(first), Some(&last), true) = (first, output.last(), random.flip()) {
+        *first = pack(offset(*first), coordinate(last));
+    }
+    runs
 }
 
 /// A list that is sharp, steady or neither.
@@ -448,15 +539,17 @@ fn lists(run: &mut Run, times: u64, seed: u64) {
         checks::rotate_runs(run, &runs, n, pivot, reverse);
 
         let piece_count = random.below(50) as u32;
-        let piece = list(&mut random, piece_count, 8);
+        let most = random.pick(&[2, 8, 40]);
+        let piece = list(&mut random, piece_count, most);
+        let reverse = random.flip();
         checks::append_runs(
             run,
             Append {
                 output: &runs,
                 output_count: n,
-                piece: &piece,
+                piece: &as_piece(&mut random, piece, &runs, reverse),
                 piece_count,
-                reverse: random.flip(),
+                reverse,
             },
         );
     }
@@ -469,12 +562,13 @@ fn lists(run: &mut Run, times: u64, seed: u64) {
         checks::rotate_runs(run, &runs, n, pivot, reverse);
         let piece_count = 1 + random.below(50_000) as u32;
         let piece = random.sharp(piece_count, 20_000);
+        let output = random.sharp(n, 100);
         checks::append_runs(
             run,
             Append {
-                output: &random.sharp(n, 100),
+                output: &output,
                 output_count: n,
-                piece: &piece,
+                piece: &as_piece(&mut random, piece, &output, reverse),
                 piece_count,
                 reverse,
             },
@@ -547,7 +641,7 @@ fn long_lists(run: &mut Run, times: u64, seed: u64) {
                     Append {
                         output: &output,
                         output_count,
-                        piece: &piece,
+                        piece: &as_piece(&mut random, piece.clone(), &output, reverse),
                         piece_count,
                         reverse,
                     },

@@ -2,7 +2,7 @@
 //! and that the proved code (where the archive takes part) answers as the specification says and alters nothing else.
 
 use compare::checks::{self, Append};
-use compare::judge::CLASSES;
+use compare::judge::{self, CLASSES, Verdict};
 use compare::reference::Outcome::{self, Failed, Gave, Panicked};
 use compare::reference::{DEBUG, RELEASE, hush_panics};
 use compare::run::Run;
@@ -398,6 +398,139 @@ fn append_piece() {
         append(class, (&a, 1), (&above, 1), true),
         (6, both(Panicked))
     );
+}
+
+/// What the specification puts behind the output, where it accepts.
+fn appended(
+    (output, output_count): (&[u64], u32),
+    (piece, piece_count): (&[u64], u32),
+    reverse: bool,
+) -> (Vec<u64>, u64) {
+    let used = output.len() as u64;
+    model::append_runs(output, used, output_count, piece, piece_count, reverse).expect("accepted")
+}
+
+#[test]
+fn append_merged() {
+    let class = "append-merged";
+    let a = [pack(0, A)];
+    for reverse in [false, true] {
+        // Like the output's last, and unlike it.
+        let like = [pack(0, A), pack(1, A)];
+        assert_eq!(
+            append(class, (&a, 1), (&like, 2), reverse),
+            (0, both(Gave(like.to_vec())))
+        );
+        assert_eq!(appended((&a, 1), (&like, 2), reverse), (vec![], 2));
+        let unlike = [pack(0, B), pack(1, B)];
+        assert_eq!(
+            append(class, (&a, 1), (&unlike, 2), reverse),
+            (0, both(Gave([&a[..], &unlike].concat())))
+        );
+        let first = vec![pack(0, B)];
+        assert_eq!(appended((&a, 1), (&unlike, 2), reverse), (first, 2));
+    }
+    let piece = [pack(0, A), pack(1, A), pack(2, B), pack(3, B)];
+    let kept = Gave(vec![a[0], pack(3, A), pack(4, B), pack(5, B)]);
+    assert_eq!(append(class, (&a, 3), (&piece, 5), false), (0, both(kept)));
+    assert_eq!(appended((&a, 3), (&piece, 5), false), (vec![pack(4, B)], 7));
+    let kept = Gave(vec![a[0], pack(2, B), pack(4, B), pack(5, A), pack(6, A)]);
+    assert_eq!(append(class, (&a, 3), (&piece, 5), true), (0, both(kept)));
+    let merged = vec![pack(2, B), pack(5, A)];
+    assert_eq!(appended((&a, 3), (&piece, 5), true), (merged, 7));
+}
+
+/// A piece without equal neighbours is no such case, even where the output has some, or an equal run that isn't its last, or where
+/// neighbours have one worker.
+#[test]
+fn pieces_without_equal_neighbours_are_appended_alike() {
+    hush_panics();
+    let other = A + 256;
+    type Runs<'a> = &'a [u64];
+    let cases: [(Runs, Runs, u32, Runs); 5] = [
+        (
+            &[pack(0, A), pack(1, A)],
+            &[pack(0, other), pack(1, A)],
+            2,
+            &[pack(1, other), pack(2, A)],
+        ),
+        (&[pack(0, A), pack(1, B)], &[pack(0, A)], 1, &[pack(1, A)]),
+        (&[pack(0, A), pack(1, A)], &[pack(0, A)], 2, &[]),
+        (
+            &[pack(0, A), pack(1, A)],
+            &[pack(0, B), pack(1, A)],
+            2,
+            &[pack(1, B), pack(2, A)],
+        ),
+        (
+            &[pack(0, A), pack(1, B)],
+            &[pack(0, B), pack(1, A), pack(2, B)],
+            3,
+            &[pack(2, A), pack(3, B)],
+        ),
+    ];
+    for (output, piece, piece_count, new) in cases {
+        let case = Append {
+            output,
+            output_count: 2,
+            piece,
+            piece_count,
+            reverse: false,
+        };
+        let mut run = Run::default();
+        checks::append_runs(&mut run, case);
+        assert_eq!(run.failed, 0);
+        assert!(run.classes.keys().all(|&met| met == "space"));
+        let vertices = u64::from(piece_count) + 1;
+        assert_eq!(
+            appended((output, 2), (piece, piece_count), false),
+            (new.to_vec(), vertices)
+        );
+    }
+}
+
+/// What the class doesn't cover: an answer that keeps an equal run, inside or at the junction, or has another colour; and a reference
+/// that merges too, has another colour, gives no list or gives nothing.
+#[test]
+fn only_merging_is_merged() {
+    let output = [pack(0, A)];
+    let equal = [pack(0, A), pack(1, B), pack(2, B)];
+    let seen = Gave([&output[..], &[pack(1, B), pack(2, B)]].concat());
+    let judged = |piece: &[u64], new: &[u64], seen: &Outcome<Vec<u64>>| {
+        judge::append_runs(&output, piece, &Ok((new.to_vec(), 3)), seen)
+    };
+    let merged = [pack(1, B)];
+    assert_eq!(
+        judged(&equal, &merged, &seen),
+        Verdict::Class("append-merged")
+    );
+    for new in [
+        &[pack(1, B), pack(2, B)][..],
+        &[pack(0, A), pack(1, B)],
+        &[pack(1, C)],
+        &[pack(2, B)],
+        &[],
+    ] {
+        assert_eq!(judged(&equal, new, &seen), Verdict::Unknown, "{new:X?}");
+    }
+    for other in [
+        Gave([&output[..], &merged].concat()),
+        Gave(vec![output[0], pack(1, B), pack(2, C)]),
+        Gave(vec![output[0], pack(2, B), pack(1, B)]),
+        Panicked,
+        Failed(UnexpectedEof),
+    ] {
+        assert_eq!(
+            judged(&equal, &merged, &other),
+            Verdict::Unknown,
+            "{other:X?}"
+        );
+    }
+    // Of a piece without equal neighbours the runs have to be the same.
+    let apart = [pack(0, A), pack(1, B)];
+    assert_eq!(judged(&apart, &merged, &seen), Verdict::Unknown);
+    let same = Gave([&output[..], &merged].concat());
+    assert_eq!(judged(&apart, &merged, &same), Verdict::Same);
 }
 
 /// Elias's gamma code of s: as many zeros as s has bits, less one, then its bits, highest first.

@@ -41,12 +41,23 @@ impl Unitig {
         self.starts[1..].reverse();
     }
 
-    /// Without the piece's first vertex and its start 0.
-    fn append(&mut self, piece: &Unitig) {
+    /// With the piece behind it, but for the piece's first vertex and its start 0.
+    fn joined(&self, piece: &Unitig) -> Unitig {
         let shift = self.coordinates.len() as u32 - 1;
-        self.coordinates.extend(&piece.coordinates[1..]);
-        self.starts
-            .extend(piece.starts[1..].iter().map(|&start| start + shift));
+        let shifted = piece.starts[1..].iter().map(|&start| start + shift);
+        Unitig {
+            coordinates: [&self.coordinates[..], &piece.coordinates[1..]].concat(),
+            starts: self.starts.iter().copied().chain(shifted).collect(),
+        }
+    }
+
+    /// Without each start whose vertex has the coordinate of the one before.
+    fn drop_equal_starts(&mut self) {
+        let coordinates = &self.coordinates;
+        self.starts.retain(|&start| {
+            let vertex = start as usize;
+            vertex == 0 || coordinates[vertex] != coordinates[vertex - 1]
+        });
     }
 
     /// 16: whether its last vertex can be its first one again.
@@ -213,23 +224,22 @@ impl Plain {
         if reverse {
             piece.reverse();
         }
-        let mut starts = piece.starts.len() as u64;
-        if let Some(open) = &self.open {
-            if open.coordinates.last() != piece.coordinates.first() {
+        let mut joined = match &self.open {
+            None => piece,
+            Some(open) if open.coordinates.last() != piece.coordinates.first() => {
                 return Err(Clause::Junction);
             }
-            starts += open.starts.len() as u64 - 1;
-        }
-        if starts > self.lengths.open {
+            Some(open) => open.joined(&piece),
+        };
+        joined.drop_equal_starts();
+        if joined.starts.len() as u64 > self.lengths.open {
             return Err(Clause::OpenRuns);
         }
+        // The piece is held as sent.
         if runs.len() as u64 > self.lengths.held {
             return Err(Clause::HeldPiece);
         }
-        match &mut self.open {
-            None => self.open = Some(piece),
-            Some(open) => open.append(&piece),
-        }
+        self.open = Some(joined);
         Ok(count)
     }
 

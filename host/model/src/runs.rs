@@ -57,7 +57,7 @@ pub fn reversed(runs: &[u64], n: u32) -> Vec<u64> {
         .collect()
 }
 
-fn oriented(runs: &[u64], n: u32, reverse: bool) -> Vec<u64> {
+pub fn oriented(runs: &[u64], n: u32, reverse: bool) -> Vec<u64> {
     if reverse {
         reversed(runs, n)
     } else {
@@ -65,8 +65,33 @@ fn oriented(runs: &[u64], n: u32, reverse: bool) -> Vec<u64> {
     }
 }
 
+/// Whether a run has the coordinate of the one before it.
+pub fn has_equal_neighbours(runs: &[u64]) -> bool {
+    runs.windows(2)
+        .any(|pair| coordinate(pair[0]) == coordinate(pair[1]))
+}
+
+/// The list without each run that has the coordinate of the one before it: of equal neighbours the first stays.
+pub fn merged(runs: &[u64]) -> Vec<u64> {
+    merged_behind(None, runs)
+}
+
+/// The same of a list behind a run of this coordinate.
+fn merged_behind(before: Option<u64>, runs: &[u64]) -> Vec<u64> {
+    let mut last = before;
+    let mut kept = Vec::new();
+    for &run in runs {
+        let named = Some(coordinate(run));
+        if named != last {
+            kept.push(run);
+        }
+        last = named;
+    }
+    kept
+}
+
 /// A run wherever a vertex has another coordinate than the one before.
-fn merged(colours: &[u64]) -> Vec<u64> {
+fn runs_of(colours: &[u64]) -> Vec<u64> {
     let mut runs: Vec<u64> = Vec::new();
     for (vertex, &colour) in colours.iter().enumerate() {
         if vertex == 0 || colours[vertex - 1] != colour {
@@ -119,15 +144,12 @@ pub fn append_runs(
     if !is_sharp(piece, piece_count) {
         return Err(Why::Piece);
     }
+    // The output's own runs stay as they are, equal neighbours too.
+    let piece = oriented(piece, piece_count, reverse);
+    let new = merged_behind(Some(coordinate(last)), &piece);
     // The piece's first vertex is the output's last.
-    let mut new: Vec<u64> = oriented(piece, piece_count, reverse)
-        .iter()
-        .map(|&run| pack(out_count - 1 + offset(run), coordinate(run)))
-        .collect();
-    if coordinate(new[0]) == coordinate(last) {
-        new.remove(0);
-    }
-    Ok((new, sum - 1))
+    let shift = |run: &u64| pack(out_count - 1 + offset(*run), coordinate(*run));
+    Ok((new.iter().map(shift).collect(), sum - 1))
 }
 
 /// The turned list: 7, 6.
@@ -138,7 +160,7 @@ pub fn rotate_runs(runs: &[u64], n: u32, pivot: u32, reverse: bool) -> Result<Ve
     }
     let mut all = colours(&oriented(runs, n, reverse), n);
     all.rotate_left((pivot % n) as usize);
-    Ok(merged(&all))
+    Ok(runs_of(&all))
 }
 
 /// The bytes of a list: 6.

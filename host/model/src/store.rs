@@ -4,7 +4,7 @@
 use crate::calls::{Answer, Call, Clause, Deed, Lengths, Way};
 use crate::records::{limit_ids, read_record, record_of};
 use crate::runs::{
-    append_runs, coordinate, is_sharp, offset, read_runs, reversed, rotate_runs, write_runs,
+    append_runs, coordinate, is_sharp, merged, offset, oriented, read_runs, rotate_runs, write_runs,
 };
 use crate::{MAX_COLORS, MAX_VERTICES, Why};
 
@@ -312,10 +312,9 @@ impl State {
                 return Err(Clause::NoSet);
             }
         }
-        // The new open runs, and behind how many they go.
+        // The new open runs, merged, and behind how many they go.
         let (new, behind) = match self.current {
-            Current::Nothing if reverse => (reversed(runs, n), 0),
-            Current::Nothing => (runs.to_vec(), 0),
+            Current::Nothing => (merged(&oriented(runs, n, reverse)), 0),
             Current::Open(open) => {
                 let before = self.open_runs(open, buffers)?;
                 let first = if reverse { runs.last() } else { runs.first() };
@@ -332,6 +331,7 @@ impl State {
         if open > self.lengths.open {
             return Err(Clause::OpenRuns);
         }
+        // It is held as sent, since a repeat is compared with that.
         if runs.len() as u64 > self.lengths.held {
             return Err(Clause::HeldPiece);
         }

@@ -13,8 +13,13 @@ fn add(number: u32, ids: &[u32]) -> Call {
     }
 }
 
+/// A run list, in short.
+fn words(runs: &[(u32, u64)]) -> Vec<u64> {
+    runs.iter().map(|&(at, named)| pack(at, named)).collect()
+}
+
 fn join(number: u32, n: u32, reverse: bool, runs: &[(u32, u64)]) -> Call {
-    let runs = runs.iter().map(|&(at, named)| pack(at, named)).collect();
+    let runs = words(runs);
     Call::Numbered {
         number,
         deed: Deed::Join { n, reverse, runs },
@@ -148,9 +153,8 @@ fn filed(both: &Both, runs: &[(u32, u64)], vertices: u64) {
         .collect();
     assert_eq!(started, runs);
     assert_eq!(unitig.coordinates.len() as u64, vertices);
-    let words: Vec<u64> = runs.iter().map(|&(at, named)| pack(at, named)).collect();
     let len = both.state.used.runs;
-    assert_eq!(model::read_runs(&both.buffers.runs), Ok((words, len)));
+    assert_eq!(model::read_runs(&both.buffers.runs), Ok((words(runs), len)));
     assert_eq!(both.buffers.table[..2], [0, vertices]);
     assert!(both.buffers.runs[len as usize..].iter().all(|&b| b == 165));
     assert!(both.buffers.table[2..].iter().all(|&word| word == 165));
@@ -240,6 +244,290 @@ fn unitigs_that_do_not_walk_back_are_no_cycles() {
         }
         both.answers(close(4, Way::Line), 0);
         filed(&both, runs, u64::from(n));
+    }
+}
+
+/// Pieces of five vertices, in short.
+const EQUAL: [(u32, u64); 4] = [(0, 2), (1, 2), (2, 258), (3, 258)];
+const OTHERS: [(u32, u64); 4] = [(0, 258), (1, 258), (2, 2), (3, 2)];
+
+impl Both {
+    /// Both stores hold an open unitig, these runs of so many vertices, and the buffer nothing behind them.
+    fn open(&self, runs: &[(u32, u64)], vertices: u32) {
+        let unitig = self.plain.open.as_ref().expect("an open unitig");
+        let starts: Vec<u32> = runs.iter().map(|&(at, _)| at).collect();
+        assert_eq!(unitig.starts, starts);
+        assert_eq!(unitig.coordinates.len() as u32, vertices);
+        assert_eq!(self.state.current, Current::Open(vertices));
+        assert_eq!(self.state.used.open, runs.len() as u64);
+        let (used, rest) = self.buffers.open.split_at(runs.len());
+        assert_eq!(used, words(runs));
+        assert!(rest.iter().all(|&word| word == 165));
+    }
+
+    /// The held piece is this one, as sent.
+    fn holds(&self, runs: &[(u32, u64)]) {
+        assert_eq!(self.state.used.held, runs.len() as u64);
+        assert_eq!(self.buffers.held[..runs.len()], words(runs));
+    }
+}
+
+#[test]
+fn a_first_piece_is_merged() {
+    let cases: [(bool, &[(u32, u64)]); 2] =
+        [(false, &[(0, 2), (2, 258)]), (true, &[(0, 258), (3, 2)])];
+    for (reverse, runs) in cases {
+        let mut both = with_sets(LENGTHS);
+        both.answers(join(3, 5, reverse, &EQUAL), 5);
+        both.open(runs, 5);
+        both.holds(&EQUAL);
+        both.answers(close(4, Way::Line), 0);
+        filed(&both, runs, 5);
+    }
+    // Four in a row, of one vertex each.
+    let mut both = with_sets(LENGTHS);
+    both.answers(
+        join(3, 4, false, &[(0, 258), (1, 258), (2, 258), (3, 258)]),
+        4,
+    );
+    both.open(&[(0, 258)], 4);
+}
+
+/// The run at the junction goes, and those behind it that are like it.
+#[test]
+fn later_pieces_are_merged() {
+    for (reverse, piece) in [(false, EQUAL), (true, OTHERS)] {
+        let mut both = with_sets(LENGTHS);
+        both.answers(join(3, 3, false, &[(0, 258), (1, 2)]), 3);
+        both.answers(join(4, 5, reverse, &piece), 7);
+        let end = if reverse { 5 } else { 4 };
+        both.open(&[(0, 258), (1, 2), (end, 258)], 7);
+        both.holds(&piece);
+        // Nothing but the last coordinate again.
+        both.answers(
+            join(5, 4, reverse, &[(0, 258), (1, 258), (2, 258), (3, 258)]),
+            10,
+        );
+        both.open(&[(0, 258), (1, 2), (end, 258)], 10);
+        both.answers(close(6, Way::Line), 0);
+        filed(&both, &[(0, 258), (1, 2), (end, 258)], 10);
+    }
+}
+
+/// A worker alone, which all coordinates of a store share, makes no equal neighbours.
+#[test]
+fn runs_of_one_worker_are_not_merged() {
+    let mut both = with_sets(LENGTHS);
+    both.answers(add(3, &[5]), 514);
+    let runs = [(0, 2), (1, 514), (2, 258), (3, 2)];
+    both.answers(join(4, 4, false, &runs), 4);
+    both.open(&runs, 4);
+    // The two sets are equal, and the coordinates are not.
+    both.answers(join(5, 3, false, &[(0, 2), (1, 514), (2, 514)]), 6);
+    both.open(&[(0, 2), (1, 514), (2, 258), (3, 2), (4, 514)], 6);
+}
+
+#[test]
+fn repeats_are_compared_as_sent() {
+    for reverse in [false, true] {
+        let mut both = with_sets(LENGTHS);
+        both.answers(join(3, 5, reverse, &EQUAL), 5);
+        both.answers(join(3, 5, reverse, &EQUAL), 5);
+        // Its merged runs, which leave the same open runs, are other arguments.
+        both.refuses(join(3, 5, reverse, &[(0, 2), (2, 258)]), 11);
+        let next = [(0, if reverse { 2 } else { 258 })];
+        both.answers(join(4, 3, false, &next), 7);
+        let cut = [(0, next[0].1), (1, next[0].1)];
+        both.refuses(join(4, 3, false, &cut), 11);
+        both.answers(join(4, 3, false, &next), 7);
+    }
+}
+
+/// The open runs' buffer as long as the merged runs and the held piece's as long as those sent will do; one place less of
+/// either is 3, also where the merged piece could be held.
+#[test]
+fn join_needs_the_merged_runs_and_the_piece_as_sent() {
+    for reverse in [false, true] {
+        for (open, held, fits) in [(2, 4, true), (1, 4, false), (2, 3, false), (2, 2, false)] {
+            let mut both = with_sets(Lengths {
+                open,
+                held,
+                ..LENGTHS
+            });
+            let first = join(3, 5, reverse, &EQUAL);
+            if fits {
+                both.answers(first, 5);
+            } else {
+                both.refuses(first, 3);
+            }
+        }
+    }
+    let same = [(0, 2), (1, 2), (2, 2), (3, 2)];
+    for (piece, back, open, held, fits) in [
+        (EQUAL, OTHERS, 3, 4, true),
+        (EQUAL, OTHERS, 2, 4, false),
+        (EQUAL, OTHERS, 3, 3, false),
+        (EQUAL, OTHERS, 3, 2, false),
+        // None is put behind the open runs.
+        (same, same, 2, 4, true),
+        (same, same, 2, 3, false),
+    ] {
+        for reverse in [false, true] {
+            let mut both = with_sets(Lengths {
+                open,
+                held,
+                ..LENGTHS
+            });
+            both.answers(join(3, 3, false, &[(0, 258), (1, 2)]), 3);
+            let later = join(4, 5, reverse, if reverse { &back } else { &piece });
+            if fits {
+                both.answers(later, 7);
+            } else {
+                both.refuses(later, 3);
+            }
+        }
+    }
+}
+
+/// Of the four runs sent, two are filed, in 17 bytes: as a line, and as a cycle whose third run has the dropped vertex alone.
+#[test]
+fn close_needs_the_merged_runs() {
+    for (runs, fits) in [(17, true), (16, false)] {
+        for way in [Way::Line, cycle(0)] {
+            let mut both = with_sets(Lengths { runs, ..LENGTHS });
+            both.answers(join(3, 5, false, &EQUAL), 5);
+            if way != Way::Line {
+                both.answers(join(4, 2, false, &[(0, 258), (1, 2)]), 6);
+            }
+            let number = both.state.number + 1;
+            if fits {
+                both.answers(close(number, way), 0);
+                filed(&both, &[(0, 2), (2, 258)], 5);
+            } else {
+                both.refuses(close(number, way), 3);
+            }
+        }
+    }
+}
+
+/// A piece as it is sent, and its coordinates vertex by vertex, the runs' way around.
+struct Piece {
+    reverse: bool,
+    runs: Vec<(u32, u64)>,
+    coordinates: Vec<u64>,
+}
+
+impl Piece {
+    fn one(reverse: bool, named: u64) -> Piece {
+        Piece {
+            reverse,
+            runs: vec![(0, named)],
+            coordinates: vec![named],
+        }
+    }
+
+    /// With one more vertex, which begins a run or doesn't.
+    fn and(&self, named: u64, starts: bool) -> Piece {
+        let at = self.coordinates.len() as u32;
+        let start = starts.then_some((at, named));
+        Piece {
+            reverse: self.reverse,
+            runs: self.runs.iter().copied().chain(start).collect(),
+            coordinates: [&self.coordinates[..], &[named]].concat(),
+        }
+    }
+
+    fn n(&self) -> u32 {
+        self.coordinates.len() as u32
+    }
+
+    fn oriented(&self) -> Vec<u64> {
+        let mut coordinates = self.coordinates.clone();
+        if self.reverse {
+            coordinates.reverse();
+        }
+        coordinates
+    }
+
+    fn join(&self, number: u32) -> Call {
+        join(number, self.n(), self.reverse, &self.runs)
+    }
+}
+
+/// Every sharp list of two coordinates and up to so many vertices: each vertex behind the first goes on with its run, repeats its
+/// coordinate in a run of its own, or has the other one.
+fn small_pieces(reverse: bool, most: u32) -> Vec<Piece> {
+    let mut pieces = vec![Piece::one(reverse, 2), Piece::one(reverse, 258)];
+    let mut from = 0;
+    for n in 1..most {
+        let to = pieces.len();
+        for k in from..to {
+            let last = pieces[k].coordinates[n as usize - 1];
+            for (named, starts) in [(last, false), (last, true), (260 - last, true)] {
+                pieces.push(pieces[k].and(named, starts));
+            }
+        }
+        from = to;
+    }
+    pieces
+}
+
+/// The first vertex and each one unlike that before it, with its coordinate.
+fn changes(coordinates: &[u64]) -> Vec<(u32, u64)> {
+    (0..coordinates.len())
+        .filter(|&v| v == 0 || coordinates[v] != coordinates[v - 1])
+        .map(|v| (v as u32, coordinates[v]))
+        .collect()
+}
+
+/// The pieces joined, and the unitig closed as a line, in buffers of these lengths.
+fn two_pieces(first: &Piece, second: &Piece, open: u64, held: u64) {
+    let mut both = with_sets(Lengths {
+        open,
+        held,
+        ..LENGTHS
+    });
+    let fits = |coordinates: &[u64], piece: &Piece| {
+        changes(coordinates).len() as u64 <= open && piece.runs.len() as u64 <= held
+    };
+    let mut coordinates = first.oriented();
+    if !fits(&coordinates, first) {
+        return both.refuses(first.join(3), 3);
+    }
+    both.answers(first.join(3), first.n().into());
+    both.open(&changes(&coordinates), first.n());
+    both.holds(&first.runs);
+
+    let behind = second.oriented();
+    if coordinates.last() != behind.first() {
+        return both.refuses(second.join(4), 8);
+    }
+    coordinates.extend(&behind[1..]);
+    if !fits(&coordinates, second) {
+        return both.refuses(second.join(4), 3);
+    }
+    let vertices = coordinates.len() as u32;
+    both.answers(second.join(4), vertices.into());
+    both.open(&changes(&coordinates), vertices);
+    both.holds(&second.runs);
+    both.answers(close(5, Way::Line), 0);
+    filed(&both, &changes(&coordinates), vertices.into());
+}
+
+/// Every two small pieces, in either direction, in buffers from too short to long enough: the open runs are those of the changes of
+/// coordinate and the first, and so are the closed ones; the held piece is as sent.
+#[test]
+fn every_two_small_pieces() {
+    let pieces = [false, true].map(|reverse| small_pieces(reverse, 3));
+    assert_eq!(pieces.each_ref().map(Vec::len), [2 + 6 + 18; 2]);
+    for first in pieces.iter().flatten() {
+        for second in pieces.iter().flatten() {
+            for open in 1..=6 {
+                for held in 1..=4 {
+                    two_pieces(first, second, open, held);
+                }
+            }
+        }
     }
 }
 
@@ -580,6 +868,25 @@ fn altered_open_runs() {
     both.answers(close(4, Way::Line), 0);
     both.buffers.open.fill(u64::MAX);
     both.answers(join(5, 1, false, &[(0, 258)]), 1);
+}
+
+/// Sharp open runs with equal neighbours, as no call leaves them, are taken as they are: only the piece is merged.
+#[test]
+fn altered_open_runs_with_equal_neighbours() {
+    let mut both = with_sets(LENGTHS);
+    both.answers(join(3, 3, false, &[(0, 258), (1, 2)]), 3);
+    let (state, mut buffers) = (both.state, both.buffers);
+    buffers.open[0] = pack(0, 2);
+    let piece = join(4, 3, false, &[(0, 2), (1, 2), (2, 258)]);
+    let (state, answer) = state.call(&piece, &mut buffers);
+    assert_eq!(answer, Ok(Answer::Value(5)));
+    assert_eq!(state.used.open, 3);
+    let runs = [pack(0, 2), pack(1, 2), pack(4, 258)];
+    assert_eq!(buffers.open[..3], runs);
+    let (state, answer) = state.call(&close(5, Way::Line), &mut buffers);
+    assert_eq!(answer, Ok(Answer::Value(0)));
+    let filed = model::read_runs(&buffers.runs[..state.used.runs as usize]);
+    assert_eq!(filed, Ok((runs.to_vec(), 25)));
 }
 
 #[test]

@@ -178,12 +178,13 @@ pub fn reverse_runs_in_place(runs: &mut [u64], n: u32) -> Result<usize, Refusal>
 }
 
 /// Appends a piece, reversed first where `reverse` is set, to the output: the first `used` runs of `out`, of `out_count`
-/// vertices. The piece's first vertex is the output's last, so the new count is the sum less one. A first run of the piece
-/// with the output's last coordinate is dropped. Only places of `out` behind the first `used` are written.
+/// vertices. The piece's first vertex is the output's last, so the new count is the sum less one. A run of the piece with the
+/// coordinate of the run before it, which for the first one is the output's last, is left out. Only places of `out` behind
+/// the first `used` are written.
 ///
 /// Refuses: [`Space`](Refusal::Space), `used` above the length of `out`; [`Vertices`](Refusal::Vertices), a count of 0 or a
 /// new one above [`MAX_VERTICES`]; [`Runs`](Refusal::Runs), the output is empty, not steady, or has its last offset not
-/// below its count, or the piece is not sharp; [`Space`](Refusal::Space), `out` too short for the new runs.
+/// below its count, or the piece is not sharp; [`Space`](Refusal::Space), `out` too short for the runs that are left.
 pub fn append_runs(
     out: &mut [u64],
     used: usize,

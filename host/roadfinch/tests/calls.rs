@@ -203,6 +203,40 @@ fn append() {
     assert_eq!(out, [run(0, A)]);
 }
 
+/// Of equal neighbours the first stays, of which the output's last run can be one.
+#[test]
+fn append_merges_equal_neighbours() {
+    let piece = [run(0, A), run(1, A), run(2, B), run(3, B)];
+    for (reverse, last, put) in [(false, A, run(4, B)), (true, B, run(5, A))] {
+        let mut out = [run(0, last), 1, 1];
+        let done = Appended {
+            runs: 2,
+            vertices: 7,
+        };
+        // One place is enough, none is not.
+        let refused = roadfinch::append_runs(&mut out[..1], 1, 3, &piece, 5, reverse);
+        assert_eq!(refused, Err(Refusal::Space));
+        let accepted = roadfinch::append_runs(&mut out[..2], 1, 3, &piece, 5, reverse);
+        assert_eq!(accepted, Ok(done));
+        assert_eq!(out, [run(0, last), put, 1]);
+    }
+    // One worker doesn't make two coordinates one.
+    let mut out = [run(0, A), 1, 1];
+    let done = Appended {
+        runs: 3,
+        vertices: 2,
+    };
+    let others = [run(0, A + 256), run(1, A)];
+    let accepted = roadfinch::append_runs(&mut out, 1, 1, &others, 2, false);
+    assert_eq!(accepted, Ok(done));
+    assert_eq!(out, [run(0, A), run(0, A + 256), run(1, A)]);
+    // The output's own runs stay as they are.
+    let mut out = [run(0, A), run(1, A), 1];
+    let accepted = roadfinch::append_runs(&mut out, 2, 2, &[run(0, B)], 1, false);
+    assert_eq!(accepted, Ok(done));
+    assert_eq!(out, [run(0, A), run(1, A), run(1, B)]);
+}
+
 #[test]
 fn run_bytes() {
     let list = [run(4, 258)];

@@ -1,7 +1,7 @@
 -- What a function that turns a list down, or takes it, answers: by the tests that it makes.
 use Prim.Native.Nat.{ℕ, ◌≤◌, ◌<◌}
 use mathlib.Core.Path.{◌≡◌, refl, sym, ap, ap₂, ◌∙◌}
-use mathlib.Core.Bool.{Bool, not}
+use mathlib.Core.Bool.{Bool, true, false, not}
 use mathlib.Core.List.{List, [], ◌∷◌}
 use native.Mathlib.Omega.{arith}
 use borrow.Author.Tests.{lt-ltb, le-ltb}
@@ -14,13 +14,15 @@ use Rattle.base.specs.declared.Refusal.TheVariants.{Vertices, Runs}
 use Rattle.base.specs.Parts.{over}
 use Rattle.base.proofs.Tests.{when_yes, when_no}
 use Rattle.base.proofs.Bools.{not_no, not_yes}
-use Rattle.runs.specs.Orders.{most_vertices, steady, list_into}
-use Rattle.runs.specs.Reverse.{reverse_runs, reverse_in_place}
+use Rattle.runs.specs.Orders.{most_vertices, sharp, steady, list_into}
+use Rattle.runs.specs.Reverse.{oriented, reverse_runs, reverse_in_place}
+use Rattle.runs.specs.Merge.{merge, merge_into}
 use Rattle.runs.specs.Rotate.{rotate_runs}
 use Rattle.runs.specs.Bytes.{write_runs, write_rotated}
 use Rattle.runs.specs.Inside.Lists.{Taken}
 use Rattle.runs.specs.Inside.Refusals.{IsTurnedDown}
 use Rattle.runs.proofs.Laws.Orders.{yes_steady}
+use Rattle.runs.proofs.Laws.Merge.{merge_oriented_long}
 use Rattle.runs.proofs.Laws.Reverse.{length_reversed}
 
 -- the two tests that all of them make first
@@ -68,3 +70,27 @@ module _ (ws : List ℕ) (n pivot : ℕ) (r : Bool) (out : List ℕ) where
   pub rotated_written : Taken n ws → write_runs (rotate_runs n pivot r ws) out ≡ write_rotated ws n pivot r out
   unfolding write_rotated
   rotated_written t = sym (let_through n ws _ _ _ t)
+
+module _ (ws : List ℕ) (n : ℕ) (r : Bool) (out : List ℕ) where
+  pub merged_7 : most_vertices < n → ◌≡◌ {A = Answer × List ℕ} (refused 7, out) (merge_into ws n r out)
+  unfolding merge_into
+  merged_7 h = sym (when_yes _ _ _ (lt-ltb most_vertices n h))
+
+  module _ (small : n ≤ most_vertices) where
+    pub merged_6 : sharp n ws ≡ false → ◌≡◌ {A = Answer × List ℕ} (refused 6, out) (merge_into ws n r out)
+    unfolding merge_into
+    merged_6 e = sym (when_no _ _ _ (le-ltb most_vertices n small) ∙ when_yes _ _ _ (not_yes _ e))
+
+    module _ (list : sharp n ws ≡ true) (k : ℕ) (count : k ≡ length (merge ws)) where
+      long : k ≡ length (merge (oriented r n ws))
+      long = count ∙ sym (merge_oriented_long r n ws (omega (arith, small)))
+
+      pub merged_3 : length out < k → ◌≡◌ {A = Answer × List ℕ} (refused 3, out) (merge_into ws n r out)
+      unfolding merge_into
+      merged_3 l = sym (when_no _ _ _ (le-ltb most_vertices n small) ∙ when_no _ _ _ (not_no _ list) ∙ when_yes _ _ _ (lt-ltb _ _ (omega (arith, l, long))))
+
+      pub merged_done : (after : List ℕ) → k ≤ length out → after ≡ over (merge (oriented r n ws)) out → ◌≡◌ {A = Answer × List ℕ} (done (k ∷ []), after) (merge_into ws n r out)
+      unfolding merge_into
+      merged_done after l e =
+          ap₂ (λ (x : ℕ) (y : List ℕ). (done (x ∷ []), y)) long e
+          ∙ sym (when_no _ _ _ (le-ltb most_vertices n small) ∙ when_no _ _ _ (not_no _ list) ∙ when_no _ _ _ (le-ltb _ _ (omega (arith, l, long))))

@@ -1,13 +1,13 @@
 -- Laws of a piece behind an output: its parts, and what append answers.
 use Prim.Native.Nat.{ℕ, zero, suc, ◌+◌, ◌-◌, ◌≤◌, ◌<◌}
-use mathlib.Core.Path.{◌≡◌, refl, sym, ap, ap₂, ◌∙◌, subst}
+use mathlib.Core.Path.{◌≡◌, refl, sym, ap, ap₂, ◌∙◌}
 use mathlib.Core.Bool.{Bool, true, false, not, ◌||◌}
 use mathlib.Core.List.{List, [], ◌∷◌, ◌++◌}
 use native.Mathlib.Omega.{arith}
 use borrow.Author.Tests.{lt-ltb, le-ltb, eq-eqb, ne_eqb, eqb-false, ltb-true, ltb-false}
 use Rattle.std.specs.Int.{from_bool}
-use lib.ListN.{length, take, drop, get_or, length-append, length-drop}
-use lib.Seq.{length-take-le, paste, take_all}
+use lib.ListN.{length, take, get_or, length-append}
+use lib.Seq.{length-take-le}
 use lib.Dec.{ltb, eqb}
 use Rattle.base.specs.Tests.{◌when◌else◌}
 use Rattle.base.specs.Answers.{Answer, refused, done}
@@ -19,10 +19,12 @@ use Rattle.runs.specs.Colours.{last_run, first_coord, last_coord}
 use Rattle.runs.specs.Orders.{most_vertices, sharp}
 use Rattle.runs.specs.Inside.Lists.{Steady}
 use Rattle.runs.specs.Reverse.{oriented}
+use Rattle.runs.specs.Merge.{merge, merge_behind}
 use Rattle.runs.specs.Append.{shifted, skip, appendix, append_runs, joinable, bad_counts, result_into, append_into}
 use Rattle.runs.specs.Inside.Pieces.{Admitted, drops_first}
-use Rattle.runs.proofs.Laws.Orders.{sharp_yes, sharp_steady, steady_yes}
+use Rattle.runs.proofs.Laws.Orders.{sharp_yes, sharp_steady, sharp_vertices, steady_yes}
 use Rattle.runs.proofs.Laws.Reverse.{oriented_long}
+use Rattle.runs.proofs.Laws.Merge.{behind_drops, merge_oriented_long}
 
 pub length_shifted : (k : ℕ) (ws : List ℕ) → length (shifted k ws) ≡ length ws
 unfolding shifted
@@ -93,6 +95,22 @@ unfolding skip ◌when◌else◌
 skip_is c piece true e = ap (λ (t : Bool). ◌when◌else◌ {A = ℕ} 1 t 0) e
 skip_is c piece false e = ap (λ (t : Bool). ◌when◌else◌ {A = ℕ} 1 t 0) e
 
+pub skip_le : (c : ℕ) (piece : List ℕ) → skip c piece ≤ 1
+unfolding skip ◌when◌else◌
+skip_le c piece = go (eqb c (first_coord piece))
+  where
+    go : (t : Bool) → (◌when◌else◌ {A = ℕ} 1 t 0) ≤ 1
+    go true = omega arith
+    go false = omega arith
+
+-- the counts of two sharp lists
+pub sharp_counts : (a b : ℕ) (out piece : List ℕ) → sharp a out ≡ true → sharp b piece ≡ true → a + b - 1 ≤ most_vertices → bad_counts a b ≡ false
+unfolding bad_counts
+sharp_counts a b out piece s t few =
+    let x : a ≡ 0 → ⊥ = λ e. omega (arith, sharp_vertices a out s) in
+    let y : b ≡ 0 → ⊥ = λ e. omega (arith, sharp_vertices b piece t) in
+    rw (ne_eqb a 0 x, ne_eqb b 0 y, le-ltb _ _ few) refl
+
 pub one_bit : (b : Bool) → from_bool b ≤ 1
 one_bit true = omega arith
 one_bit false = omega arith
@@ -122,8 +140,8 @@ module _ (out : List ℕ) (used a : ℕ) (piece : List ℕ) (b : ℕ) (r : Bool)
           unfolding append_into
           append_goes = sym (when_no _ _ _ (le-ltb _ _ fits) ∙ when_no _ _ _ good ∙ when_no _ _ _ (not_no _ may) ∙ when_no _ _ _ (not_no _ piece-sharp))
 
-          pub admitted : Admitted out used a piece b
-          admitted =
+          pub admitted : (merged : ℕ) → merged ≡ length (merge piece) → Admitted out used a piece b merged
+          admitted merged count =
               let c = counts a b good in
               let s = sharp_yes b piece piece-sharp in
               record {
@@ -134,36 +152,37 @@ module _ (out : List ℕ) (used a : ℕ) (piece : List ℕ) (b : ℕ) (r : Bool)
                 sum = c.sum;
                 first = s.some;
                 taken = record { small = omega (arith, c.left, c.sum); list = sharp_steady b piece s };
+                count = count;
               }
 
--- the piece's runs from `from` on are what append puts behind the output
-module _ (out : List ℕ) (used a : ℕ) (piece : List ℕ) (b : ℕ) (r : Bool) (fits : used ≤ length out) (from total : ℕ)
-    (from_is : from ≡ skip (last_coord (take used out)) (oriented r b piece)) (total-is : total ≡ used + (length piece - from)) where
-  long : length (append_runs (take used out) a piece b r) ≡ total
-  unfolding append_runs appendix
-  long =
-      let os : List ℕ = oriented r b piece in
-      let l : length os ≡ length piece = oriented_long r b piece in
-      let t : length (take used out) ≡ used = length-take-le used out fits in
-      let k : ℕ = skip (last_coord (take used out)) os in
-      let d : length (drop k os) ≡ length os - k = length-drop k os in
-      length-append (take used out) (shifted (a - 1) (drop k os)) ∙ omega (arith, length_shifted (a - 1) (drop k os), from_is)
+-- the merged runs are what append puts behind the output
+module _ (out : List ℕ) (used a : ℕ) (piece : List ℕ) (b : ℕ) (r : Bool) (fits : used ≤ length out) where
+  abbrev behind : List ℕ
+  behind = merge_behind (last_coord (take used out)) (oriented r b piece)
 
-  pub result_3 : length out < total → ◌≡◌ {A = Answer × List ℕ} (refused 3, out) (result_into (append_runs (take used out) a piece b r) (a + b - 1) out)
-  unfolding result_into
-  result_3 h = sym (when_yes _ _ _ (lt-ltb _ _ (subst (λ (x : ℕ). length out < x) (sym long) h)))
+  long : length (take used out ++ shifted (a - 1) behind) ≡ used + length behind
+  long = length-append (take used out) (shifted (a - 1) behind) ∙ omega (arith, length_shifted (a - 1) behind, length-take-le used out fits)
 
-  pub result_done : (after : List ℕ) (count : ℕ) → total ≤ length out → count ≡ a + b - 1 → after ≡ paste out used (shifted (a - 1) (drop from (oriented r b piece))) (length piece - from)
-      → ◌≡◌ {A = Answer × List ℕ} (done (total ∷ count ∷ []), after) (result_into (append_runs (take used out) a piece b r) (a + b - 1) out)
-  unfolding result_into append_runs appendix over
-  result_done after count h c e =
-      let os : List ℕ = oriented r b piece in
-      let s : List ℕ = shifted (a - 1) (drop from os) in
-      let l : length os ≡ length piece = oriented_long r b piece in
-      let d : length (drop from os) ≡ length os - from = length-drop from os in
-      let q : take (length piece - from) s ≡ s = take_all (length piece - from) s (omega (arith, length_shifted (a - 1) (drop from os))) in
-      let f : take used out ++ s ≡ append_runs (take used out) a piece b r = ap (λ (k : ℕ). take used out ++ shifted (a - 1) (drop k os)) from_is in
-      let g : after ≡ append_runs (take used out) a piece b r ++ drop total out = e ∙ ap₂ (λ (x : List ℕ) (y : ℕ). (take used out ++ x) ++ drop y out) q (sym total-is) ∙ ap (λ (x : List ℕ). x ++ drop total out) f in
-      let z : length (append_runs (take used out) a piece b r) ≤ length out = subst (λ (x : ℕ). x ≤ length out) (sym long) h in
-      ap₂ (λ (x : Answer) (y : List ℕ). (x, y)) (ap₂ (λ (x y : ℕ). done (x ∷ y ∷ [])) (sym long) c) (g ∙ ap (λ (x : ℕ). append_runs (take used out) a piece b r ++ drop x out) (sym long))
-      ∙ sym (when_no _ _ _ (le-ltb _ _ z))
+  -- as many as the merged piece has, less the first where the output ends on its coordinate
+  module _ (merged : ℕ) (small : b < 16777216) (some : 0 < length piece) (count : merged ≡ length (merge piece)) (drops : Bool) (drops-is : drops ≡ drops_first (last_coord (take used out)) (oriented r b piece)) where
+    few : length behind + from_bool drops ≡ merged
+    few =
+        ap (λ (t : Bool). length behind + from_bool t) drops-is
+        ∙ behind_drops (last_coord (take used out)) (oriented r b piece) (omega (arith, oriented_long r b piece, some))
+        ∙ merge_oriented_long r b piece small
+        ∙ sym count
+
+    pub total_is : used + (merged - from_bool drops) ≡ length (take used out ++ shifted (a - 1) behind)
+    total_is = omega (arith, few, long)
+
+    pub result_3 : length out < used + (merged - from_bool drops) → ◌≡◌ {A = Answer × List ℕ} (refused 3, out) (result_into (append_runs (take used out) a piece b r) (a + b - 1) out)
+    unfolding result_into append_runs appendix
+    result_3 h = sym (when_yes _ _ _ (lt-ltb _ _ (omega (arith, h, total_is))))
+
+    pub result_done : (after : List ℕ) (count : ℕ) → used + (merged - from_bool drops) ≤ length out → count ≡ a + b - 1 → after ≡ over (take used out ++ shifted (a - 1) behind) out
+        → ◌≡◌ {A = Answer × List ℕ} (done ((used + (merged - from_bool drops)) ∷ count ∷ []), after) (result_into (append_runs (take used out) a piece b r) (a + b - 1) out)
+    unfolding result_into append_runs appendix
+    result_done after count h c e =
+        let z : length (take used out ++ shifted (a - 1) behind) ≤ length out = omega (arith, h, total_is) in
+        ap₂ (λ (x : Answer) (y : List ℕ). (x, y)) (ap₂ (λ (x y : ℕ). done (x ∷ y ∷ [])) total_is c) e
+        ∙ sym (when_no _ _ _ (le-ltb _ _ z))

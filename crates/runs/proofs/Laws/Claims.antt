@@ -6,27 +6,30 @@ use mathlib.Core.List.{List, [], ◌∷◌, ◌++◌, append-nil, reverse}
 use native.Mathlib.Omega.{arith}
 use native.Mathlib.Decide.{dec_lt}
 use borrow.Author.Tests.{le-ltb}
-use lib.ListN.{length, take, drop, get_or, drop_of_length-le, length-append}
+use lib.ListN.{length, take, drop, get_or, drop_of_length-le, length-append, length-drop}
 use lib.Seq.{take-nil, drop-nil}
 use lib.Dec.{ltb}
 use Rattle.base.specs.Answers.{Answer, refused, done}
 use Rattle.base.specs.Parts.{over}
 use Rattle.base.proofs.Tests.{when_no}
-use Rattle.runs.specs.Words.{offset, AreWords}
+use Rattle.runs.specs.Words.{offset, coordinate, AreWords}
 use Rattle.runs.specs.Colours.{next, end_at, colours, starts, colour_at, last_run, first_coord, last_coord}
 use Rattle.runs.specs.Orders.{most_vertices, steady, sharp, list_into}
 use Rattle.runs.specs.Inside.Lists.{Sharp}
 use Rattle.runs.specs.Reverse.{reverse_runs, oriented, reverse_into, reverse_in_place}
-use Rattle.runs.specs.Append.{shifted, append_runs, bad_counts, joinable}
+use Rattle.runs.specs.Merge.{merge, merge_behind, unlike_neighbours}
+use Rattle.runs.specs.Append.{shifted, skip, appendix, append_runs, unmerged_runs, bad_counts, joinable}
 use Rattle.runs.specs.Rotate.{turn_left, firsts, runs_at, merged, rotate_runs}
 use Rattle.runs.specs.Bytes.{run_bytes, ReadRuns, given_in, read_runs_into}
-use Rattle.runs.proofs.Laws.Orders.{steady_yes, yes_steady, sharp_yes, yes_sharp, sharp_steady, run_begins}
+use Rattle.runs.proofs.Laws.Orders.{steady_yes, yes_steady, sharp_yes, yes_sharp, sharp_steady, sharp_vertices, run_begins}
 use Rattle.runs.proofs.Laws.Colours.{length_colours, steady_long, steady_at, colour_steady}
 use Rattle.runs.proofs.Laws.Reverse as back
-use Rattle.runs.proofs.Laws.Merge.{colours_merged, merged_sharp, starts_merged}
+use Rattle.runs.proofs.Laws.Merged.{colours_merged, merged_sharp, starts_merged}
 use Rattle.runs.proofs.Laws.Cursor.{turn_long}
-use Rattle.runs.proofs.Laws.Append.{counts, joinable_is}
+use Rattle.runs.proofs.Laws.Merge.{behind_first, behind_own, merge_colours, merge_merged, merge_same, merge_sharp, merge_some, merge_unlike, merge_whole, oriented_unlike, unlike_oriented}
+use Rattle.runs.proofs.Laws.Append.{counts, joinable_is, length_shifted, sharp_counts, skip_le}
 use Rattle.runs.proofs.Laws.Joints as joints
+use Rattle.runs.proofs.Laws.Joints.{sharp_joinable}
 use Rattle.runs.proofs.Laws.Bytes.{read_back}
 
 -- ---- a list by its colours
@@ -74,6 +77,10 @@ module _ (n : ℕ) (ws : List ℕ) (few : n ≤ most_vertices) (list : steady n 
 pub reversed_sharp : (n : ℕ) (ws : List ℕ) → n ≤ most_vertices → sharp n ws ≡ true → sharp n (reverse_runs n ws) ≡ true
 reversed_sharp n ws few list = yes_sharp n (reverse_runs n ws) (back.sharp_reversed n ws (omega arith) (sharp_yes n ws list))
 
+pub oriented_is_sharp : (r : Bool) (n : ℕ) (ws : List ℕ) → n ≤ most_vertices → sharp n ws ≡ true → sharp n (oriented r n ws) ≡ true
+oriented_is_sharp true n ws few list = reversed_sharp n ws few list
+oriented_is_sharp false n ws few list = list
+
 -- in place answers and leaves what reverse does with an output that is the list itself
 pub in_place_agrees : (ws : List ℕ) (n : ℕ) → reverse_into ws n ws ≡ reverse_in_place ws n
 unfolding list_into reverse_in_place over
@@ -82,6 +89,31 @@ in_place_agrees ws n =
     let d : drop (length (reverse_runs n ws)) ws ≡ [] = drop_of_length-le ws {i = length (reverse_runs n ws)} (omega arith) in
     let e : ltb (length ws) (length (reverse_runs n ws)) ≡ false = le-ltb (length ws) (length (reverse_runs n ws)) (omega arith) in
     rw (when_no {A = Answer × List ℕ} (refused 3, ws) (ltb (length ws) (length (reverse_runs n ws))) (done (length (reverse_runs n ws) ∷ []), reverse_runs n ws ++ drop (length (reverse_runs n ws)) ws) e, d, append-nil (reverse_runs n ws), l)
+
+-- ---- merge
+
+-- of a sharp list: vertex by vertex the colours stay, the list is sharp again, it is the runs of its colours; no neighbours are equal, and merging twice is merging once (Laws/Merge: `merge_unlike`, `merge_twice`)
+module _ (n : ℕ) (ws : List ℕ) (list : sharp n ws ≡ true) where
+  pub merged_colours : colours n (merge ws) ≡ colours n ws
+  merged_colours = merge_colours n ws (sharp_steady n ws (sharp_yes n ws list)).up
+
+  pub merged_vertex : (v : ℕ) → v < n → colour_at v (merge ws) ≡ colour_at v ws
+  merged_vertex v h =
+      let s = sharp_yes n ws list in
+      let m = sharp_steady n (merge ws) (merge_sharp n ws s) in
+      colour_steady n (merge ws) v m (merge_some ws s.some) h ∙ ap (λ (cs : List ℕ). get_or cs v 0) merged_colours ∙ sym (colour_steady n ws v (sharp_steady n ws s) s.some h)
+
+  pub merged_is_sharp : sharp n (merge ws) ≡ true
+  merged_is_sharp = yes_sharp n (merge ws) (merge_sharp n ws (sharp_yes n ws list))
+
+  pub merged_is : merge ws ≡ merged (colours n ws)
+  merged_is = merge_merged n ws (sharp_yes n ws list)
+
+-- colours merged into runs leave no equal neighbours
+pub merged_runs_unlike : (cs : List ℕ) → 0 < length cs → length cs ≤ most_vertices → unlike_neighbours (merged cs) ≡ true
+merged_runs_unlike cs h few =
+    let e = merge_merged (length cs) (merged cs) (merged_sharp cs h (omega (arith, few))) ∙ ap merged (colours_merged cs (omega (arith, few))) in
+    subst (λ (ws : List ℕ). unlike_neighbours ws ≡ true) e (merge_unlike (merged cs))
 
 -- ---- append
 
@@ -97,19 +129,58 @@ module _ (out : List ℕ) (a : ℕ) (piece : List ℕ) (b : ℕ) (r : Bool) (goo
   pub appended_joinable : joinable (a + b - 1) (append_runs out a piece b r) ≡ true
   appended_joinable = joints.appended_joinable out a piece b r good may list
 
--- behind a sharp output that ends on the piece's first coordinate the list is sharp again
-pub joined_sharp : (out : List ℕ) (a : ℕ) (piece : List ℕ) (b : ℕ) (r : Bool) → sharp a out ≡ true → sharp b piece ≡ true → a + b - 1 ≤ most_vertices → b ≤ most_vertices → last_coord out ≡ first_coord (oriented r b piece)
-    → sharp (a + b - 1) (append_runs out a piece b r) ≡ true
-joined_sharp out a piece b r s t few small e =
-    rw (joints.append_dropped out a piece b r e) (go out (oriented r b piece) (sharp_yes a out s) (back.oriented_sharp r b piece (omega arith) (sharp_yes b piece t)))
-  where
-    none : 0 < 0 → ⊥
-    none k = omega arith
+-- it is 01's append of the merged piece: so the runs are the reference's where the piece has no equal neighbours, and only there
+pub append_merges : (out : List ℕ) (a : ℕ) (piece : List ℕ) (b : ℕ) (r : Bool) → append_runs out a piece b r ≡ out ++ shifted (a - 1) (drop (skip (last_coord out) (oriented r b piece)) (merge (oriented r b piece)))
+unfolding append_runs appendix
+append_merges out a piece b r = ap (λ (ws : List ℕ). out ++ shifted (a - 1) ws) (behind_first (last_coord out) (oriented r b piece))
 
-    go : (xs os : List ℕ) → Sharp a xs → Sharp b os → sharp (a + b - 1) (xs ++ shifted (a - 1) (drop 1 os)) ≡ true
-    go [] os s t = absurd (none s.some)
-    go (w ∷ ws) [] s t = absurd (none t.some)
-    go (w ∷ ws) (o ∷ os) s t = yes_sharp (a + b - 1) ((w ∷ ws) ++ shifted (a - 1) os) (joints.sharp_joined a b w o ws os s t (omega arith))
+module _ (out : List ℕ) (a : ℕ) (piece : List ℕ) (b : ℕ) (r : Bool) (small : b ≤ most_vertices) where
+  pub append_as_reference : unlike_neighbours piece ≡ true → append_runs out a piece b r ≡ unmerged_runs out a piece b r
+  unfolding unmerged_runs
+  append_as_reference e =
+      let os : List ℕ = oriented r b piece in
+      append_merges out a piece b r ∙ ap (λ (ws : List ℕ). out ++ shifted (a - 1) (drop (skip (last_coord out) os) ws)) (merge_same os (oriented_unlike r b piece (omega arith) e))
+
+  pub reference_as_append : append_runs out a piece b r ≡ unmerged_runs out a piece b r → unlike_neighbours piece ≡ true
+  unfolding unmerged_runs merge
+  reference_as_append e = unlike_oriented r b piece (omega arith) (merge_whole (oriented r b piece) (long (skip (last_coord out) (oriented r b piece)) (oriented r b piece) (skip_le (last_coord out) (oriented r b piece)) (sym (append_merges out a piece b r) ∙ e)))
+    where
+      behind : (xs : List ℕ) → length (out ++ shifted (a - 1) xs) ≡ length out + length xs
+      behind xs = length-append out (shifted (a - 1) xs) ∙ ap (λ (k : ℕ). length out + k) (length_shifted (a - 1) xs)
+
+      long : (k : ℕ) (os : List ℕ) → k ≤ 1 → out ++ shifted (a - 1) (drop k (merge os)) ≡ out ++ shifted (a - 1) (drop k os) → length (merge os) ≡ length os
+      long k [] h q = refl
+      long k (w ∷ ws) h q = omega (arith, ap length q, behind (drop k (merge (w ∷ ws))), behind (drop k (w ∷ ws)), length-drop k (merge (w ∷ ws)), length-drop k (w ∷ ws), merge_some (w ∷ ws) (omega arith))
+
+-- behind an output without equal neighbours none are added
+pub appended_unlike : (out : List ℕ) (a : ℕ) (piece : List ℕ) (b : ℕ) (r : Bool) → bad_counts a b ≡ false → joinable a out ≡ true → sharp b piece ≡ true → unlike_neighbours out ≡ true → unlike_neighbours (append_runs out a piece b r) ≡ true
+appended_unlike out a piece b r good may list e =
+    let c = counts a b good in
+    joints.unlike_appended out a piece b r (joinable_is a out may).some e (sharp_yes b piece list) (omega (arith, c.sum, c.left, c.right))
+
+module _ (out : List ℕ) (a : ℕ) (piece : List ℕ) (b : ℕ) (r : Bool) (one : sharp a out ≡ true) (two : sharp b piece ≡ true) (few : a + b - 1 ≤ most_vertices) (meet : last_coord out ≡ first_coord (oriented r b piece)) where
+  -- behind a sharp output that ends on the piece's first coordinate the list is sharp again
+  pub joined_sharp : sharp (a + b - 1) (append_runs out a piece b r) ≡ true
+  unfolding append_runs appendix
+  joined_sharp = go out (oriented r b piece) meet (sharp_yes a out one) (back.oriented_sharp r b piece (omega (arith, sharp_vertices a out one)) (sharp_yes b piece two))
+    where
+      none : 0 < 0 → ⊥
+      none k = omega arith
+
+      go : (xs os : List ℕ) → last_coord xs ≡ first_coord os → Sharp a xs → Sharp b os → sharp (a + b - 1) (xs ++ shifted (a - 1) (merge_behind (last_coord xs) os)) ≡ true
+      go [] os e s t = absurd (none s.some)
+      go (w ∷ ws) [] e s t = absurd (none t.some)
+      go (w ∷ ws) (o ∷ os) e s t =
+          rw (ap (λ (c : ℕ). merge_behind c (o ∷ os)) e, behind_own o os) (yes_sharp (a + b - 1) ((w ∷ ws) ++ shifted (a - 1) (merge_behind (coordinate o) os)) (joints.sharp_joined a b w o (coordinate o) ws os s t (omega arith)))
+
+  -- and if the output has no equal neighbours, the list is the runs of all the colours
+  pub joined_merged : unlike_neighbours out ≡ true → append_runs out a piece b r ≡ merged (take (a - 1) (colours a out) ++ colours b (oriented r b piece))
+  joined_merged e =
+      let good = sharp_counts a b out piece one two few in
+      let may = sharp_joinable a out one in
+      sym (merge_same (append_runs out a piece b r) (appended_unlike out a piece b r good may two e))
+      ∙ merged_is (a + b - 1) (append_runs out a piece b r) joined_sharp
+      ∙ ap merged (appended_colours out a piece b r good may two)
 
 -- ---- rotate
 

@@ -21,7 +21,7 @@ use Rattle.runs.proofs.Laws.Lists.{split_run, length_turn, turn_front, turn_back
 use Rattle.runs.proofs.Laws.Orders.{run_begins as begins-at, end_le, starts_zero}
 use Rattle.runs.proofs.Laws.Colours.{length_colours, steady_long, steady_at}
 use Rattle.runs.proofs.Laws.Reverse.{oriented_steady}
-use Rattle.runs.proofs.Laws.Merge.{goes_on, gives, runs_merged, length_merged, length_from}
+use Rattle.runs.proofs.Laws.Merged.{goes_on, gives, runs_merged, length_merged, length_from}
 
 colour_first : (os : List ℕ) (j : ℕ) → j < length os → step_colour os j ≡ coordinate (get_or os j 0)
 unfolding step_colour

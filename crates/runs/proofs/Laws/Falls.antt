@@ -1,24 +1,25 @@
--- Places where a list falls: what the tests for steady and sharp lists count.
-use Prim.Native.Nat.{ℕ, zero, suc, ◌+◌, ◌-◌, ◌*◌, ◌/◌, ◌≤◌, ◌<◌}
-use mathlib.Core.Path.{◌≡◌, refl, sym, ap, ◌∙◌, subst}
+-- What is counted at the places of a list: where it falls, which the tests for steady and sharp lists count, and where neighbours are alike.
+use Prim.Native.Nat.{ℕ, zero, suc, ◌+◌, ◌-◌, ◌*◌, ◌/◌, ◌%◌, ◌^◌, ◌≤◌, ◌<◌}
+use mathlib.Core.Path.{◌≡◌, refl, sym, ap, ap₂, ◌∙◌, subst}
 use mathlib.Core.Bool.{Bool, true, false}
 use mathlib.Core.List.{List, map}
 use native.Mathlib.Omega.{arith}
 use native.Mathlib.Decide.{dec_lt}
-use native.Mathlib.Nat.{add-zero, add-suc}
+use native.Mathlib.Nat.{add-zero, add-suc, mul-add, mul-le-mul_left, mul-le-mul_right, mul-one, mul-zero, suc-mul, zero-mul}
 use native.Mathlib.Numerals.{add-one}
 use borrow.Author.Tests.{leb-true, eqb-true, eq-eqb, ne_eqb, le-leb, lt-ltb, le-ltb}
+use Rattle.std.specs.Int.{from_bool}
 use Rattle.std.specs.List.{range_with_len, sum}
 use Rattle.std.proofs.lemmas.List.FromFn.{sum_by-map-range_with_len_more}
 use lib.ListN.{length, get_or, drop_of_length-le}
-use lib.Dec.{ltb, eqb}
+use lib.Dec.{leb, ltb, eqb}
 use Rattle.base.specs.Tests.{◌when◌else◌}
 use Rattle.base.proofs.Tests.{when_yes, when_no}
 use Rattle.base.proofs.Bools.{and_true, and_both}
-use Rattle.runs.specs.Words.{offset}
+use Rattle.runs.specs.Words.{offset, coordinate}
 use Rattle.runs.specs.Colours.{next, end_at}
 use Rattle.runs.specs.Orders.{steady, sharp}
-use Rattle.runs.specs.Inside.Falls.{fall, falls, of_eight, spaced}
+use Rattle.runs.specs.Inside.Falls.{alike, fall, framed, mark, of_eight, spaced, total}
 use Rattle.runs.proofs.Laws.Orders.{run_begins, steady_yes, yes_steady, sharp_yes, yes_sharp}
 
 -- ---- one place
@@ -65,95 +66,126 @@ module _ (step : ℕ) (ws : List ℕ) where
         go (yes h) = absurd (omega (arith, fall_yes h))
         go (no h) = omega arith
 
-  -- ---- their number
+-- ---- neighbours that are alike
 
-  pub falls_more : (p i k : ℕ) → p + i ≡ k → falls step ws p (i + 1) ≡ falls step ws p i + fall step ws k
-  unfolding falls
-  falls_more p i k e = ap (falls step ws p) (add-one i) ∙ ap (λ (x : ℕ). falls step ws p i + fall step ws x) e
+pub alike_is : (ws : List ℕ) (p : ℕ) → from_bool (eqb (coordinate (get_or ws p 0)) (coordinate (get_or ws (p + 1) 0))) ≡ alike ws p
+unfolding alike ◌when◌else◌
+alike_is ws p = go (eqb (coordinate (get_or ws p 0)) (coordinate (get_or ws (p + 1) 0)))
+  where
+    go : (t : Bool) → from_bool t ≡ ◌when◌else◌ {A = ℕ} 1 t 0
+    go true = refl
+    go false = refl
 
-  pub falls_le : (p k : ℕ) → falls step ws p k ≤ k
-  unfolding falls
-  falls_le p zero = omega arith
-  falls_le p (suc k) = omega (arith, falls_le p k, fall_le (p + k))
+pub alike_le : (ws : List ℕ) (p : ℕ) → alike ws p ≤ 1
+unfolding alike ◌when◌else◌
+alike_le ws p = go (eqb (coordinate (get_or ws p 0)) (coordinate (get_or ws (p + 1) 0)))
+  where
+    go : (t : Bool) → (◌when◌else◌ {A = ℕ} 1 t 0) ≤ 1
+    go true = omega arith
+    go false = omega arith
 
-  pub falls_join : (p a b q : ℕ) → p + a ≡ q → falls step ws p a + falls step ws q b ≡ falls step ws p (a + b)
-  unfolding falls
-  falls_join p a zero q e = add-zero (falls step ws p a) ∙ ap (falls step ws p) (sym (add-zero a))
-  falls_join p a (suc b) q e =
-      let r : falls step ws p a + falls step ws q b ≡ falls step ws p (a + b) = falls_join p a b q e in
-      let f : fall step ws (q + b) ≡ fall step ws (p + (a + b)) = ap (fall step ws) (omega arith) in
-      let s : falls step ws p a + (falls step ws q b + fall step ws (q + b)) ≡ falls step ws p (a + b) + fall step ws (p + (a + b)) = omega arith in
-      s ∙ ap (falls step ws p) (sym (add-suc a b))
+pub mark_le : (step weight : ℕ) (ws : List ℕ) (p : ℕ) → mark step weight ws p ≤ 1 + weight
+mark_le step weight ws p = omega (arith, fall_le step ws p, mul-le-mul_left weight (alike_le ws p), mul-one weight)
+
+-- ---- what is counted at many places
+
+pub total_same : (f g : ℕ → ℕ) → ((p : ℕ) → f p ≡ g p) → (p k : ℕ) → total f p k ≡ total g p k
+unfolding total
+total_same f g h p zero = refl
+total_same f g h p (suc k) = ap₂ (λ (x y : ℕ). x + y) (total_same f g h p k) (h (p + k))
+
+module _ (f : ℕ → ℕ) where
+  pub total_more : (p i k : ℕ) → p + i ≡ k → total f p (i + 1) ≡ total f p i + f k
+  unfolding total
+  total_more p i k e = ap (total f p) (add-one i) ∙ ap (λ (x : ℕ). total f p i + f x) e
+
+  pub total_join : (p a b q : ℕ) → p + a ≡ q → total f p a + total f q b ≡ total f p (a + b)
+  unfolding total
+  total_join p a zero q e = add-zero (total f p a) ∙ ap (total f p) (sym (add-zero a))
+  total_join p a (suc b) q e =
+      let r : total f p a + total f q b ≡ total f p (a + b) = total_join p a b q e in
+      let g : f (q + b) ≡ f (p + (a + b)) = ap f (omega arith) in
+      let s : total f p a + (total f q b + f (q + b)) ≡ total f p (a + b) + f (p + (a + b)) = omega arith in
+      s ∙ ap (total f p) (sym (add-suc a b))
+
+  -- no more than so much at each
+  pub total_le : (most : ℕ) → ((p : ℕ) → f p ≤ most) → (p k : ℕ) → total f p k ≤ k * most
+  unfolding total
+  total_le most h p zero = omega arith
+  total_le most h p (suc k) = omega (arith, total_le most h p k, h (p + k), suc-mul k most)
 
   -- as a sum over the places
-  pub falls_sum : (p k : ℕ) → sum (map (fall step ws) (range_with_len p k)) ≡ falls step ws p k
-  unfolding falls
-  falls_sum p zero = refl
-  falls_sum p (suc k) =
-      ap (λ (n : ℕ). sum (map (fall step ws) (range_with_len p n))) (sym (add-one k))
-      ∙ sum_by-map-range_with_len_more (λ (x : ℕ). x) (fall step ws) p k (p + k) refl
-      ∙ ap (λ (x : ℕ). x + fall step ws (p + k)) (falls_sum p k)
+  pub total_sum : (p k : ℕ) → sum (map f (range_with_len p k)) ≡ total f p k
+  unfolding total
+  total_sum p zero = refl
+  total_sum p (suc k) =
+      ap (λ (n : ℕ). sum (map f (range_with_len p n))) (sym (add-one k))
+      ∙ sum_by-map-range_with_len_more (λ (x : ℕ). x) f p k (p + k) refl
+      ∙ ap (λ (x : ℕ). x + f (p + k)) (total_sum p k)
 
   -- of i places in each of eight parts of q places
   abbrev in_eighths : ℕ → ℕ → ℕ
-  in_eighths q i =
-      falls step ws 0 i + falls step ws q i + (falls step ws (2 * q) i + falls step ws (3 * q) i)
-      + (falls step ws (4 * q) i + falls step ws (5 * q) i + (falls step ws (6 * q) i + falls step ws (7 * q) i))
+  in_eighths q i = total f 0 i + total f q i + (total f (2 * q) i + total f (3 * q) i) + (total f (4 * q) i + total f (5 * q) i + (total f (6 * q) i + total f (7 * q) i))
 
-  eighths_more : (q i : ℕ) → in_eighths q i + of_eight step ws q i ≡ in_eighths q (i + 1)
+  eighths_more : (q i : ℕ) → in_eighths q i + of_eight f q i ≡ in_eighths q (i + 1)
   eighths_more q i =
-      let a0 : falls step ws 0 (i + 1) ≡ falls step ws 0 i + fall step ws i = falls_more 0 i i (omega arith) in
-      let a1 : falls step ws q (i + 1) ≡ falls step ws q i + fall step ws (q + i) = falls_more q i (q + i) refl in
-      let a2 : falls step ws (2 * q) (i + 1) ≡ falls step ws (2 * q) i + fall step ws (2 * q + i) = falls_more (2 * q) i (2 * q + i) refl in
-      let a3 : falls step ws (3 * q) (i + 1) ≡ falls step ws (3 * q) i + fall step ws (3 * q + i) = falls_more (3 * q) i (3 * q + i) refl in
-      let a4 : falls step ws (4 * q) (i + 1) ≡ falls step ws (4 * q) i + fall step ws (4 * q + i) = falls_more (4 * q) i (4 * q + i) refl in
-      let a5 : falls step ws (5 * q) (i + 1) ≡ falls step ws (5 * q) i + fall step ws (5 * q + i) = falls_more (5 * q) i (5 * q + i) refl in
-      let a6 : falls step ws (6 * q) (i + 1) ≡ falls step ws (6 * q) i + fall step ws (6 * q + i) = falls_more (6 * q) i (6 * q + i) refl in
-      let a7 : falls step ws (7 * q) (i + 1) ≡ falls step ws (7 * q) i + fall step ws (7 * q + i) = falls_more (7 * q) i (7 * q + i) refl in
+      let a0 : total f 0 (i + 1) ≡ total f 0 i + f i = total_more 0 i i (omega arith) in
+      let a1 : total f q (i + 1) ≡ total f q i + f (q + i) = total_more q i (q + i) refl in
+      let a2 : total f (2 * q) (i + 1) ≡ total f (2 * q) i + f (2 * q + i) = total_more (2 * q) i (2 * q + i) refl in
+      let a3 : total f (3 * q) (i + 1) ≡ total f (3 * q) i + f (3 * q + i) = total_more (3 * q) i (3 * q + i) refl in
+      let a4 : total f (4 * q) (i + 1) ≡ total f (4 * q) i + f (4 * q + i) = total_more (4 * q) i (4 * q + i) refl in
+      let a5 : total f (5 * q) (i + 1) ≡ total f (5 * q) i + f (5 * q + i) = total_more (5 * q) i (5 * q + i) refl in
+      let a6 : total f (6 * q) (i + 1) ≡ total f (6 * q) i + f (6 * q + i) = total_more (6 * q) i (6 * q + i) refl in
+      let a7 : total f (7 * q) (i + 1) ≡ total f (7 * q) i + f (7 * q + i) = total_more (7 * q) i (7 * q + i) refl in
       omega arith
 
-  in_eighths_sum : (q k : ℕ) → sum (map (of_eight step ws q) (range_with_len 0 k)) ≡ in_eighths q k
-  unfolding falls
+  in_eighths_sum : (q k : ℕ) → sum (map (of_eight f q) (range_with_len 0 k)) ≡ in_eighths q k
+  unfolding total
   in_eighths_sum q zero = refl
   in_eighths_sum q (suc k) =
-      ap (λ (n : ℕ). sum (map (of_eight step ws q) (range_with_len 0 n))) (sym (add-one k))
-      ∙ sum_by-map-range_with_len_more (λ (x : ℕ). x) (of_eight step ws q) 0 k k (omega arith)
-      ∙ ap (λ (x : ℕ). x + of_eight step ws q k) (in_eighths_sum q k)
+      ap (λ (n : ℕ). sum (map (of_eight f q) (range_with_len 0 n))) (sym (add-one k))
+      ∙ sum_by-map-range_with_len_more (λ (x : ℕ). x) (of_eight f q) 0 k k (omega arith)
+      ∙ ap (λ (x : ℕ). x + of_eight f q k) (in_eighths_sum q k)
       ∙ eighths_more q k
       ∙ ap (in_eighths q) (add-one k)
 
   -- all of them
-  pub eighths_sum : (q : ℕ) → sum (map (of_eight step ws q) (range_with_len 0 q)) ≡ falls step ws 0 (8 * q)
+  pub eighths_sum : (q : ℕ) → sum (map (of_eight f q) (range_with_len 0 q)) ≡ total f 0 (8 * q)
   eighths_sum q =
-      let a : falls step ws 0 q + falls step ws q q ≡ falls step ws 0 (q + q) = falls_join 0 q q q (omega arith) in
-      let b : falls step ws (2 * q) q + falls step ws (3 * q) q ≡ falls step ws (2 * q) (q + q) = falls_join (2 * q) q q (3 * q) (omega arith) in
-      let c : falls step ws (4 * q) q + falls step ws (5 * q) q ≡ falls step ws (4 * q) (q + q) = falls_join (4 * q) q q (5 * q) (omega arith) in
-      let d : falls step ws (6 * q) q + falls step ws (7 * q) q ≡ falls step ws (6 * q) (q + q) = falls_join (6 * q) q q (7 * q) (omega arith) in
-      let e : falls step ws 0 (q + q) + falls step ws (2 * q) (q + q) ≡ falls step ws 0 (q + q + (q + q)) = falls_join 0 (q + q) (q + q) (2 * q) (omega arith) in
-      let f : falls step ws (4 * q) (q + q) + falls step ws (6 * q) (q + q) ≡ falls step ws (4 * q) (q + q + (q + q)) = falls_join (4 * q) (q + q) (q + q) (6 * q) (omega arith) in
-      let g : falls step ws 0 (q + q + (q + q)) + falls step ws (4 * q) (q + q + (q + q)) ≡ falls step ws 0 (q + q + (q + q) + (q + q + (q + q))) = falls_join 0 (q + q + (q + q)) (q + q + (q + q)) (4 * q) (omega arith) in
-      let h : falls step ws 0 (q + q + (q + q) + (q + q + (q + q))) ≡ falls step ws 0 (8 * q) = ap (falls step ws 0) (omega arith) in
-      let i : in_eighths q q ≡ falls step ws 0 (8 * q) = omega arith in
+      let a : total f 0 q + total f q q ≡ total f 0 (q + q) = total_join 0 q q q (omega arith) in
+      let b : total f (2 * q) q + total f (3 * q) q ≡ total f (2 * q) (q + q) = total_join (2 * q) q q (3 * q) (omega arith) in
+      let c : total f (4 * q) q + total f (5 * q) q ≡ total f (4 * q) (q + q) = total_join (4 * q) q q (5 * q) (omega arith) in
+      let d : total f (6 * q) q + total f (7 * q) q ≡ total f (6 * q) (q + q) = total_join (6 * q) q q (7 * q) (omega arith) in
+      let e : total f 0 (q + q) + total f (2 * q) (q + q) ≡ total f 0 (q + q + (q + q)) = total_join 0 (q + q) (q + q) (2 * q) (omega arith) in
+      let g : total f (4 * q) (q + q) + total f (6 * q) (q + q) ≡ total f (4 * q) (q + q + (q + q)) = total_join (4 * q) (q + q) (q + q) (6 * q) (omega arith) in
+      let h : total f 0 (q + q + (q + q)) + total f (4 * q) (q + q + (q + q)) ≡ total f 0 (q + q + (q + q) + (q + q + (q + q))) = total_join 0 (q + q + (q + q)) (q + q + (q + q)) (4 * q) (omega arith) in
+      let j : total f 0 (q + q + (q + q) + (q + q + (q + q))) ≡ total f 0 (8 * q) = ap (total f 0) (omega arith) in
+      let i : in_eighths q q ≡ total f 0 (8 * q) = omega arith in
       in_eighths_sum q q ∙ i
 
-  -- ---- no place
+  -- the first place, and those behind it
+  pub total_front : (k : ℕ) → total f 0 (suc k) ≡ f 0 + total (λ (p : ℕ). f (suc p)) 0 k
+  unfolding total
+  total_front zero = omega arith
+  total_front (suc k) = let e : f (0 + suc k) ≡ f (suc (0 + k)) = ap f (omega arith) in omega (arith, total_front k, e)
 
-  none_in : (k i : ℕ) → i < k → falls step ws 0 k ≡ 0 → fall step ws i ≡ 0
-  unfolding falls
+  -- none at any
+  none_in : (k i : ℕ) → i < k → total f 0 k ≡ 0 → f i ≡ 0
+  unfolding total
   none_in zero i h e = absurd (omega arith)
   none_in (suc k) i h e = go (λ g. none_in k i g (omega arith)) (dec_lt i k)
     where
-      go : (i < k → fall step ws i ≡ 0) → Dec (i < k) → fall step ws i ≡ 0
+      go : (i < k → f i ≡ 0) → Dec (i < k) → f i ≡ 0
       go r (yes g) = r g
-      go r (no g) = let q : i ≡ 0 + k = omega arith in ap (fall step ws) q ∙ omega arith
+      go r (no g) = let q : i ≡ 0 + k = omega arith in ap f q ∙ omega arith
 
-  in_none : (k : ℕ) → ((i : ℕ) → i < k → fall step ws i ≡ 0) → falls step ws 0 k ≡ 0
-  unfolding falls
+  in_none : (k : ℕ) → ((i : ℕ) → i < k → f i ≡ 0) → total f 0 k ≡ 0
+  unfolding total
   in_none zero h = refl
   in_none (suc k) h =
-      let a : falls step ws 0 k ≡ 0 = in_none k (λ i l. h i (omega arith)) in
+      let a : total f 0 k ≡ 0 = in_none k (λ i l. h i (omega arith)) in
       let q : 0 + k ≡ k = omega arith in
-      let b : fall step ws (0 + k) ≡ 0 = ap (fall step ws) q ∙ h k (omega arith) in
+      let b : f (0 + k) ≡ 0 = ap f q ∙ h k (omega arith) in
       omega arith
 
 -- ---- steady and sharp lists: each run begins `step` before it ends
@@ -168,19 +200,19 @@ module _ (step n : ℕ) (ws : List ℕ) (some : 0 < length ws) where
   ends_last : (i : ℕ) → length ws ≤ i + 1 → end_at n ws i ≡ n
   ends_last i h = ap (next n) (drop_of_length-le ws {i = suc i} (omega arith))
 
-  pub none_up : falls step ws 0 (length ws - 1) ≡ 0 → offset (get_or ws (length ws - 1) 0) + step ≤ n → UpBy
+  pub none_up : total (fall step ws) 0 (length ws - 1) ≡ 0 → offset (get_or ws (length ws - 1) 0) + step ≤ n → UpBy
   none_up e l i h = go (dec_lt (i + 1) (length ws))
     where
       go : Dec (i + 1 < length ws) → offset (get_or ws i 0) + step ≤ end_at n ws i
-      go (yes g) = subst (λ (x : ℕ). offset (get_or ws i 0) + step ≤ x) (sym (ends_next i g)) (fall_none step ws i (none_in step ws (length ws - 1) i (omega arith) e))
+      go (yes g) = subst (λ (x : ℕ). offset (get_or ws i 0) + step ≤ x) (sym (ends_next i g)) (fall_none step ws i (none_in (fall step ws) (length ws - 1) i (omega arith) e))
       go (no g) =
           let q : i ≡ length ws - 1 = omega arith in
           let a : offset (get_or ws i 0) ≡ offset (get_or ws (length ws - 1) 0) = ap (λ (k : ℕ). offset (get_or ws k 0)) q in
           let b : end_at n ws i ≡ n = ends_last i (omega arith) in
           omega arith
 
-  pub up_none : UpBy → falls step ws 0 (length ws - 1) ≡ 0
-  up_none u = in_none step ws (length ws - 1) (λ i h. fall_no step ws i (subst (λ (x : ℕ). offset (get_or ws i 0) + step ≤ x) (ends_next i (omega arith)) (u i (omega arith))))
+  pub up_none : UpBy → total (fall step ws) 0 (length ws - 1) ≡ 0
+  up_none u = in_none (fall step ws) (length ws - 1) (λ i h. fall_no step ws i (subst (λ (x : ℕ). offset (get_or ws i 0) + step ≤ x) (ends_next i (omega arith)) (u i (omega arith))))
 
   pub up_last : UpBy → offset (get_or ws (length ws - 1) 0) + step ≤ n
   up_last u = subst (λ (x : ℕ). offset (get_or ws (length ws - 1) 0) + step ≤ x) (ends_last (length ws - 1) (omega arith)) (u (length ws - 1) (omega arith))
@@ -188,15 +220,15 @@ module _ (step n : ℕ) (ws : List ℕ) (some : 0 < length ws) where
 -- what `spaced` says
 module _ (step n : ℕ) (ws : List ℕ) (some : 0 < length ws) where
   spaced_yes : spaced step n ws ≡ true → (offset (get_or ws 0 0) ≡ 0) × UpBy step n ws some
-  unfolding spaced
+  unfolding spaced framed
   spaced_yes e =
       let a = and_true _ _ e in
       let b = and_true _ _ a.0 in
-      (eqb-true _ _ b.0, none_up step n ws some (eqb-true _ _ b.1) (leb-true _ _ a.1))
+      (eqb-true _ _ b.0, none_up step n ws some (eqb-true _ _ a.1) (leb-true _ _ b.1))
 
   yes_spaced : offset (get_or ws 0 0) ≡ 0 → UpBy step n ws some → spaced step n ws ≡ true
-  unfolding spaced
-  yes_spaced f u = and_both _ _ (and_both _ _ (eq-eqb _ _ f) (eq-eqb _ _ (up_none step n ws some u))) (le-leb _ _ (up_last step n ws some u))
+  unfolding spaced framed
+  yes_spaced f u = and_both _ _ (and_both _ _ (eq-eqb _ _ f) (le-leb _ _ (up_last step n ws some u))) (eq-eqb _ _ (up_none step n ws some u))
 
 -- two tests that follow from one another
 same_tests : (a b : Bool) → (a ≡ true → b ≡ true) → (b ≡ true → a ≡ true) → a ≡ b
@@ -223,17 +255,61 @@ module _ (n : ℕ) (ws : List ℕ) (some : 0 < length ws) where
       back : spaced 1 n ws ≡ true → sharp n ws ≡ true
       back e = let s = spaced_yes 1 n ws some e in yes_sharp n ws (record { some = some; first = s.0; up = λ i h. omega (arith, s.1 i h) })
 
--- ---- the two parts of the test
+-- ---- both told of one number
 
-module _ (step : ℕ) (ws : List ℕ) (eighth : ℕ) (inside : 8 * eighth < length ws) where
-  parts : falls step ws 0 (8 * eighth) + falls step ws (8 * eighth) (length ws - 1 - 8 * eighth) ≡ falls step ws 0 (length ws - 1)
-  parts =
-      let e : 8 * eighth + (length ws - 1 - 8 * eighth) ≡ length ws - 1 = omega arith in
-      falls_join step ws 0 (8 * eighth) (length ws - 1 - 8 * eighth) (8 * eighth) (omega arith) ∙ ap (falls step ws 0) e
+module _ (step weight : ℕ) (ws : List ℕ) where
+  pub marks_apart : (p k : ℕ) → total (mark step weight ws) p k ≡ total (fall step ws) p k + weight * total (alike ws) p k
+  unfolding total
+  marks_apart p zero = omega (arith, mul-zero weight)
+  marks_apart p (suc k) = omega (arith, marks_apart p k, mul-add weight (total (alike ws) p k) (alike ws (p + k)))
 
-  -- none fall before and none behind, or some do
-  pub falls_late : falls step ws 0 (8 * eighth) ≡ 0 → falls step ws (8 * eighth) (length ws - 1 - 8 * eighth) ≡ falls step ws 0 (length ws - 1)
-  falls_late h = omega (arith, parts)
+  -- they fit where the list is testable
+  pub marks_fit : (p k : ℕ) → k ≤ length ws → length ws * (1 + weight) < 2 ^ 64 → total (mark step weight ws) p k < 2 ^ 64
+  marks_fit p k h few = omega (arith, total_le (mark step weight ws) (1 + weight) (mark_le step weight ws) p k, mul-le-mul_right (1 + weight) h, few)
 
-  pub falls_early : (falls step ws 0 (8 * eighth) ≡ 0 → ⊥) → eqb (falls step ws 0 (length ws - 1)) 0 ≡ false
-  falls_early h = ne_eqb _ _ (λ (e : falls step ws 0 (length ws - 1) ≡ 0). h (omega (arith, parts)))
+pub eight_fit : (weight k : ℕ) → 8 ≤ k → k * (1 + weight) < 2 ^ 64 → 8 * (1 + weight) < 2 ^ 64
+eight_fit weight k h few = omega (arith, mul-le-mul_right (1 + weight) h, few)
+
+-- without a weight only the falls are counted
+pub marks_none : (step : ℕ) (ws : List ℕ) (p k : ℕ) → total (mark step 0 ws) p k ≡ total (fall step ws) p k
+marks_none step ws p k = omega (arith, marks_apart step 0 ws p k, zero-mul (total (alike ws) p k))
+
+module _ (step : ℕ) (ws : List ℕ) (k : ℕ) (few : k < 4294967296) where
+  low : total (fall step ws) 0 k < 4294967296
+  low = omega (arith, total_le (fall step ws) 1 (fall_le step ws) 0 k, mul-one k)
+
+  pub marks_low : total (mark step 4294967296 ws) 0 k % 4294967296 ≡ total (fall step ws) 0 k
+  marks_low = omega (arith, marks_apart step 4294967296 ws 0 k, low)
+
+  pub marks_high : total (mark step 4294967296 ws) 0 k / 4294967296 ≡ total (alike ws) 0 k
+  marks_high = omega (arith, marks_apart step 4294967296 ws 0 k, low)
+
+  pub alike_few : total (alike ws) 0 k ≤ k
+  alike_few = omega (arith, total_le (alike ws) 1 (alike_le ws) 0 k, mul-one k)
+
+-- ---- all places, in two parts
+
+module _ (f : ℕ → ℕ) (k eighth : ℕ) (inside : 8 * eighth ≤ k) where
+  pub two_parts : total f 0 (8 * eighth) + total f (8 * eighth) (k - 8 * eighth) ≡ total f 0 k
+  two_parts =
+      let e : 8 * eighth + (k - 8 * eighth) ≡ k = omega arith in
+      total_join f 0 (8 * eighth) (k - 8 * eighth) (8 * eighth) (omega arith) ∙ ap (total f 0) e
+
+-- ---- the parts of the test
+
+module _ (step n : ℕ) (ws : List ℕ) where
+  pub framed_yes : offset (get_or ws 0 0) ≡ 0 → leb (offset (get_or ws (length ws - 1) 0) + step) n ≡ framed step n ws
+  unfolding framed
+  framed_yes e = rw (eq-eqb _ _ e) refl
+
+  pub framed_no : (offset (get_or ws 0 0) ≡ 0 → ⊥) → eqb (offset (get_or ws 0 0)) 0 ≡ framed step n ws
+  unfolding framed
+  framed_no e = rw (ne_eqb _ _ e) refl
+
+  pub spaced_framed : framed step n ws ≡ true → eqb (total (fall step ws) 0 (length ws - 1)) 0 ≡ spaced step n ws
+  unfolding spaced
+  spaced_framed e = rw e refl
+
+  pub spaced_unframed : framed step n ws ≡ false → false ≡ spaced step n ws
+  unfolding spaced
+  spaced_unframed e = rw e refl

@@ -4,38 +4,41 @@ use mathlib.Core.Path.{◌≡◌, refl, sym, ap, ap₂, ◌∙◌, subst}
 use mathlib.Core.Bool.{Bool, true, false, not, ◌&&◌}
 use mathlib.Core.List.{List, [], ◌∷◌, ◌++◌, map, append_assoc, append-nil}
 use native.Mathlib.Omega.{arith}
-use borrow.Author.Tests.{ne_eqb, lt-ltb, eqb-true}
+use borrow.Author.Tests.{ne_eqb, lt-ltb}
 use lib.ListN.{length, take, drop, get_or, replicate, length-append, length-replicate, replicate-append-replicate, drop_of_length-le, length-map}
 use lib.Seq.{take-append-add, ext_get_or}
 use lib.Dec.{ltb, eqb}
-use Rattle.base.specs.Tests.{◌when◌else◌}
 use Rattle.runs.specs.Words.{offset, coordinate, pack}
 use Rattle.runs.specs.Colours.{next, end_at, colours, starts, last_run, first_coord, last_coord}
 use Rattle.runs.specs.Orders.{most_vertices, steady, sharp}
 use Rattle.runs.specs.Inside.Lists.{Steady, Sharp}
 use Rattle.runs.specs.Reverse.{oriented}
 use Rattle.runs.specs.Rotate.{runs_at}
-use Rattle.runs.specs.Append.{shifted, skip, appendix, append_runs, joinable, bad_counts}
+use Rattle.runs.specs.Merge.{merge, merge_behind, unlike_neighbours}
+use Rattle.runs.specs.Append.{shifted, appendix, append_runs, joinable, bad_counts}
 use Rattle.runs.proofs.Laws.Words.{offset_pack, coordinate_pack, pack_of}
-use Rattle.runs.proofs.Laws.Orders.{Up, StrictUp, up_cons, strict_cons, strict_le, run_begins, tail_up, next_le, end_le, sharp_steady, sharp_yes, yes_steady}
+use Rattle.runs.proofs.Laws.Orders.{Up, StrictUp, up_cons, strict_cons, strict_le, run_begins, tail_up, next_le, end_le, last_cons, sharp_steady, sharp_yes, yes_steady}
 use Rattle.runs.proofs.Laws.Colours.{colours_append, steady_at}
 use Rattle.runs.proofs.Laws.Reverse.{oriented_sharp}
 use Rattle.runs.proofs.Laws.Lists.{get_or_behind}
+use Rattle.runs.proofs.Laws.Merge.{behind_colours, behind_first, behind_strict, behind_unlike, unlike_join, unlike_shifted}
 use Rattle.runs.proofs.Laws.Append.{skip_yes, skip_no, Counts, counts, Joinable, joinable_is}
 
 -- ---- the junction
 
--- the piece's first run is dropped where the output ends on its coordinate
+-- the merged piece stands behind the output, without its first run where the output ends on its coordinate
 pub append_dropped : (out : List ℕ) (count : ℕ) (piece : List ℕ) (n : ℕ) (r : Bool) → last_coord out ≡ first_coord (oriented r n piece)
-    → append_runs out count piece n r ≡ out ++ shifted (count - 1) (drop 1 (oriented r n piece))
+    → append_runs out count piece n r ≡ out ++ shifted (count - 1) (drop 1 (merge (oriented r n piece)))
 unfolding append_runs appendix
-append_dropped out count piece n r e = ap (λ (k : ℕ). out ++ shifted (count - 1) (drop k (oriented r n piece))) (skip_yes (last_coord out) (oriented r n piece) e)
+append_dropped out count piece n r e =
+    ap (λ (ws : List ℕ). out ++ shifted (count - 1) ws) (behind_first (last_coord out) (oriented r n piece) ∙ ap (λ (k : ℕ). drop k (merge (oriented r n piece))) (skip_yes (last_coord out) (oriented r n piece) e))
 
--- and otherwise the whole piece stands behind it
+-- and otherwise whole
 pub append_kept : (out : List ℕ) (count : ℕ) (piece : List ℕ) (n : ℕ) (r : Bool) → (last_coord out ≡ first_coord (oriented r n piece) → ⊥)
-    → append_runs out count piece n r ≡ out ++ shifted (count - 1) (oriented r n piece)
+    → append_runs out count piece n r ≡ out ++ shifted (count - 1) (merge (oriented r n piece))
 unfolding append_runs appendix
-append_kept out count piece n r e = ap (λ (k : ℕ). out ++ shifted (count - 1) (drop k (oriented r n piece))) (skip_no (last_coord out) (oriented r n piece) e)
+append_kept out count piece n r e =
+    ap (λ (ws : List ℕ). out ++ shifted (count - 1) ws) (behind_first (last_coord out) (oriented r n piece) ∙ ap (λ (k : ℕ). drop k (merge (oriented r n piece))) (skip_no (last_coord out) (oriented r n piece) e))
 
 -- where it begins at the output's count - 1
 pub kept_begins : (count n w : ℕ) (ws : List ℕ) → 0 < count → count ≤ most_vertices → offset w ≡ 0 → offset (get_or (shifted (count - 1) (w ∷ ws)) 0 0) ≡ count - 1
@@ -62,9 +65,6 @@ take_same zero m c h = refl
 take_same (suc k) zero c h = absurd (omega arith)
 take_same (suc k) (suc m) c h = ap (λ (l : List ℕ). c ∷ l) (take_same k m c (omega arith))
 
-last_cons : (w v : ℕ) (ws : List ℕ) → last_run (w ∷ v ∷ ws) ≡ last_run (v ∷ ws)
-last_cons w v ws = let e : suc (suc (length ws)) - 1 ≡ suc (suc (length ws) - 1) = omega arith in ap (λ (i : ℕ). get_or (w ∷ v ∷ ws) i 0) e
-
 -- the same runs up to an earlier end, behind the last run's first vertex: as many of the colours
 colours_less : (n k w : ℕ) (ws : List ℕ) → Up n (w ∷ ws) → offset (last_run (w ∷ ws)) ≤ k → k ≤ n → (offset w ≤ k) × (colours k (w ∷ ws) ≡ take (k - offset w) (colours n (w ∷ ws)))
 unfolding colours
@@ -88,58 +88,48 @@ colours_more k m w [] l =
 colours_more k m w (v ∷ ws) l = ap (λ (x : List ℕ). replicate (offset v - offset w) (coordinate w) ++ x) (colours_more k m v ws (subst (λ (x : ℕ). offset x ≤ k) (last_cons w v ws) l)) ∙ sym (append_assoc (replicate (offset v - offset w) (coordinate w)) (colours k (v ∷ ws)) (replicate m (coordinate (last_run (v ∷ ws))))) ∙ ap (λ (x : ℕ). (replicate (offset v - offset w) (coordinate w) ++ colours k (v ∷ ws)) ++ replicate m (coordinate x)) (sym (last_cons w v ws))
 
 -- the colours of appended runs: the output's without the last vertex, then the oriented piece's
-module _ (a b w o : ℕ) (ws os : List ℕ) (out-steady : Steady a (w ∷ ws)) (last : offset (last_run (w ∷ ws)) < a) (piece-steady : Steady b (o ∷ os)) (small : a + b - 1 < 16777216) where
+module _ (a b w o : ℕ) (ws os : List ℕ) (out-steady : Steady a (w ∷ ws)) (last : offset (last_run (w ∷ ws)) < a) (piece-sharp : Sharp b (o ∷ os)) (small : a + b - 1 < 16777216) where
   less : colours (a - 1) (w ∷ ws) ≡ take (a - 1) (colours a (w ∷ ws))
   less =
       let r = colours_less a (a - 1) w ws out-steady.up (omega arith) (omega arith) in
       let e : a - 1 - offset w ≡ a - 1 = omega (arith, out-steady.first) in
       r.1 ∙ ap (λ (x : ℕ). take x (colours a (w ∷ ws))) e
 
-  sum : a + b - 1 ≡ b + (a - 1)
-  sum = omega arith
+  abbrev c : ℕ
+  c = last_coord (w ∷ ws)
 
-  kept : colours (a + b - 1) ((w ∷ ws) ++ shifted (a - 1) (o ∷ os)) ≡ take (a - 1) (colours a (w ∷ ws)) ++ colours b (o ∷ os)
-  kept =
-      let s = colours_shifted b (a - 1) (o ∷ os) piece-steady.up (omega arith) in
-      let z : next (b + (a - 1)) (shifted (a - 1) (o ∷ os)) ≡ a - 1 = s.0 ∙ omega (arith, piece-steady.first) in
-      ap (λ (x : ℕ). colours x ((w ∷ ws) ++ shifted (a - 1) (o ∷ os))) sum
-      ∙ colours_append (b + (a - 1)) (w ∷ ws) (shifted (a - 1) (o ∷ os))
-      ∙ ap₂ (λ (x y : List ℕ). x ++ y) (ap (λ (x : ℕ). colours x (w ∷ ws)) z ∙ less) s.1
+  abbrev m : List ℕ
+  m = merge_behind c (o ∷ os)
 
-  dropped : coordinate (last_run (w ∷ ws)) ≡ coordinate o → colours (a + b - 1) ((w ∷ ws) ++ shifted (a - 1) os) ≡ take (a - 1) (colours a (w ∷ ws)) ++ colours b (o ∷ os)
-  unfolding colours
-  dropped e =
-      let s = colours_shifted b (a - 1) os (tail_up b o os piece-steady.up) (omega arith) in
-      let z : next (b + (a - 1)) (shifted (a - 1) os) ≡ a - 1 + next b os = s.0 ∙ omega arith in
-      let f : next b os ≡ next b os - offset o = omega (arith, piece-steady.first) in
-      ap (λ (x : ℕ). colours x ((w ∷ ws) ++ shifted (a - 1) os)) sum
-      ∙ colours_append (b + (a - 1)) (w ∷ ws) (shifted (a - 1) os)
-      ∙ ap₂ (λ (x y : List ℕ). x ++ y) (ap (λ (x : ℕ). colours x (w ∷ ws)) z ∙ colours_more (a - 1) (next b os) w ws (omega arith) ∙ ap₂ (λ (x : List ℕ) (y : ℕ). x ++ replicate (next b os) y) less e) s.1
-      ∙ append_assoc (take (a - 1) (colours a (w ∷ ws))) (replicate (next b os) (coordinate o)) (colours b os)
-      ∙ ap (λ (x : ℕ). take (a - 1) (colours a (w ∷ ws)) ++ (replicate x (coordinate o) ++ colours b os)) f
+  all : colours (a + b - 1) ((w ∷ ws) ++ shifted (a - 1) m) ≡ take (a - 1) (colours a (w ∷ ws)) ++ colours b (o ∷ os)
+  all =
+      let e : a + b - 1 ≡ b + (a - 1) = omega arith in
+      let r = behind_colours b 0 c (o ∷ os) (strict_le b (o ∷ os) piece-sharp.up) (omega arith) in
+      let s = colours_shifted b (a - 1) m (strict_le b m (behind_strict b c (o ∷ os) piece-sharp.up).1) (omega arith) in
+      let z : next (b + (a - 1)) (shifted (a - 1) m) ≡ a - 1 + (next b m - 0) = s.0 ∙ omega arith in
+      let f : next b (o ∷ os) - 0 ≡ 0 = omega (arith, piece-sharp.first) in
+      ap (λ (x : ℕ). colours x ((w ∷ ws) ++ shifted (a - 1) m)) e
+      ∙ colours_append (b + (a - 1)) (w ∷ ws) (shifted (a - 1) m)
+      ∙ ap₂ (λ (x y : List ℕ). x ++ y) (ap (λ (x : ℕ). colours x (w ∷ ws)) z ∙ colours_more (a - 1) (next b m - 0) w ws (omega arith) ∙ ap (λ (x : List ℕ). x ++ replicate (next b m - 0) c) less) s.1
+      ∙ append_assoc (take (a - 1) (colours a (w ∷ ws))) (replicate (next b m - 0) c) (colours b m)
+      ∙ ap (λ (x : List ℕ). take (a - 1) (colours a (w ∷ ws)) ++ x) (r.1 ∙ ap (λ (x : ℕ). replicate x c ++ colours b (o ∷ os)) f)
 
 -- behind a nonempty output whose last offset is below its count: its colours without the last vertex, then the piece's
-pub colours_joined : (a b : ℕ) (xs os : List ℕ) → Steady a xs → 0 < length xs → offset (last_run xs) < a → Steady b os → 0 < length os → a + b - 1 < 16777216
+pub colours_joined : (a b : ℕ) (xs os : List ℕ) → Steady a xs → 0 < length xs → offset (last_run xs) < a → Sharp b os → a + b - 1 < 16777216
     → colours (a + b - 1) (xs ++ appendix (last_coord xs) a os) ≡ take (a - 1) (colours a xs) ++ colours b os
-unfolding appendix skip ◌when◌else◌
-colours_joined a b [] os s h l t g small = absurd (omega arith)
-colours_joined a b (w ∷ ws) [] s h l t g small = absurd (none g)
+unfolding appendix
+colours_joined a b [] os s h l t small = absurd (omega arith)
+colours_joined a b (w ∷ ws) [] s h l t small = absurd (none t.some)
   where
     none : 0 < 0 → ⊥
     none k = omega arith
-colours_joined a b (w ∷ ws) (o ∷ os) s h l t g small = go (eqb (last_coord (w ∷ ws)) (coordinate o)) refl
-  where
-    go : (u : Bool) → eqb (last_coord (w ∷ ws)) (coordinate o) ≡ u
-        → colours (a + b - 1) ((w ∷ ws) ++ shifted (a - 1) (drop (◌when◌else◌ {A = ℕ} 1 u 0) (o ∷ os))) ≡ take (a - 1) (colours a (w ∷ ws)) ++ colours b (o ∷ os)
-    go true e = dropped a b w o ws os s l t small (eqb-true _ _ e)
-    go false e = kept a b w o ws os s l t small
+colours_joined a b (w ∷ ws) (o ∷ os) s h l t small = all a b w o ws os s l t small
 
 pub colours_appended : (out : List ℕ) (a : ℕ) (piece : List ℕ) (b : ℕ) (r : Bool) → Steady a out → 0 < length out → offset (last_run out) < a → Sharp b piece → a + b - 1 < 16777216
     → colours (a + b - 1) (append_runs out a piece b r) ≡ take (a - 1) (colours a out) ++ colours b (oriented r b piece)
 unfolding append_runs
 colours_appended out a piece b r s h l p small =
-    let q = oriented_sharp r b piece (omega arith) p in
-    colours_joined a b out (oriented r b piece) s h l (sharp_steady b (oriented r b piece) q) q.some small
+    colours_joined a b out (oriented r b piece) s h l (oriented_sharp r b piece (omega arith) p) small
 
 -- ---- the list that append leaves is one that a piece can stand behind
 
@@ -203,13 +193,9 @@ record Behind (a b : ℕ) (ys : List ℕ) : Type 0 where
   pub from : a - 1 ≤ next (b + (a - 1)) ys
   pub up : StrictUp (b + (a - 1)) ys
 
-behind : (a b c o : ℕ) (os : List ℕ) → 0 < a → b + (a - 1) < 16777216 → Sharp b (o ∷ os) → Behind a b (appendix c a (o ∷ os))
-unfolding appendix skip ◌when◌else◌
-behind a b c o os h small s = go (eqb c (coordinate o))
-  where
-    go : (u : Bool) → Behind a b (shifted (a - 1) (drop (◌when◌else◌ {A = ℕ} 1 u 0) (o ∷ os)))
-    go true = let r = strict_shifted b (a - 1) os (tail_strict b o os s.up) small in record { from = omega (arith, r.1); up = r.2 }
-    go false = let r = strict_shifted b (a - 1) (o ∷ os) s.up small in record { from = omega (arith, r.1); up = r.2 }
+behind : (a b c : ℕ) (os : List ℕ) → b + (a - 1) < 16777216 → Sharp b os → Behind a b (appendix c a os)
+unfolding appendix
+behind a b c os small s = let r = strict_shifted b (a - 1) (merge_behind c os) (behind_strict b c os s.up).1 small in record { from = omega (arith, r.1); up = r.2 }
 
 joined_up : (a b : ℕ) (xs ys : List ℕ) → Steady a xs → 0 < length xs → offset (last_run xs) < a → Behind a b ys → Steady (b + (a - 1)) (xs ++ ys)
 joined_up a b [] ys s h l q = absurd (omega arith)
@@ -224,7 +210,7 @@ joined_last a b xs (y ∷ ys) h g l q = subst (λ (x : ℕ). offset x < b + (a -
 pub appended_joinable : (out : List ℕ) (a : ℕ) (piece : List ℕ) (b : ℕ) (r : Bool) → bad_counts a b ≡ false → joinable a out ≡ true → sharp b piece ≡ true
     → joinable (a + b - 1) (append_runs out a piece b r) ≡ true
 unfolding joinable append_runs
-appended_joinable out a piece b r good may sh = go (oriented r b piece) (oriented_sharp r b piece (omega (arith, c.left, c.sum)) (sharp_yes b piece sh))
+appended_joinable out a piece b r good may sh = go
   where
     c : Counts a b
     c = counts a b good
@@ -235,32 +221,44 @@ appended_joinable out a piece b r good may sh = go (oriented r b piece) (oriente
     n : a + b - 1 ≡ b + (a - 1)
     n = omega (arith, c.left)
 
-    go : (os : List ℕ) → Sharp b os → not (eqb (length (out ++ appendix (last_coord out) a os)) 0) && (steady (a + b - 1) (out ++ appendix (last_coord out) a os) && ltb (offset (last_run (out ++ appendix (last_coord out) a os))) (a + b - 1)) ≡ true
-    go [] s = absurd (none s.some)
-      where
-        none : 0 < 0 → ⊥
-        none k = omega arith
-    go (o ∷ os) s =
-        let ys : List ℕ = appendix (last_coord out) a (o ∷ os) in
-        let q = behind a b (last_coord out) o os c.left (omega (arith, c.left, c.sum)) s in
+    os : List ℕ
+    os = oriented r b piece
+
+    ys : List ℕ
+    ys = appendix (last_coord out) a os
+
+    go : not (eqb (length (out ++ ys)) 0) && (steady (a + b - 1) (out ++ ys) && ltb (offset (last_run (out ++ ys))) (a + b - 1)) ≡ true
+    go =
+        let q = behind a b (last_coord out) os (omega (arith, c.left, c.sum)) (oriented_sharp r b piece (omega (arith, c.left, c.sum)) (sharp_yes b piece sh)) in
         let some : length (out ++ ys) ≡ 0 → ⊥ = λ z. omega (arith, length-append out ys, j.some) in
         let st : steady (a + b - 1) (out ++ ys) ≡ true = rw n (yes_steady (b + (a - 1)) (out ++ ys) (joined_up a b out ys j.list j.some j.last q)) in
         let la : offset (last_run (out ++ ys)) < a + b - 1 = rw n (joined_last a b out ys c.left c.right j.last q) in
-        rw (ne_eqb (length (out ++ ys)) 0 some, st, lt-ltb (offset (last_run (out ++ ys))) (a + b - 1) la)
+        rw (ne_eqb (length (out ++ ys)) 0 some, st, lt-ltb (offset (last_run (out ++ ys))) (a + b - 1) la) refl
 
 -- ---- a join: behind a sharp output that ends on the piece's first coordinate the list is sharp again
 
-pub sharp_joined : (a b w o : ℕ) (ws os : List ℕ) → Sharp a (w ∷ ws) → Sharp b (o ∷ os) → a + b - 1 < 16777216 → Sharp (a + b - 1) ((w ∷ ws) ++ shifted (a - 1) os)
-sharp_joined a b w o ws os s t small =
+pub sharp_joined : (a b w o c : ℕ) (ws os : List ℕ) → Sharp a (w ∷ ws) → Sharp b (o ∷ os) → a + b - 1 < 16777216 → Sharp (a + b - 1) ((w ∷ ws) ++ shifted (a - 1) (merge_behind c os))
+sharp_joined a b w o c ws os s t small =
     let p : offset o < next b os = t.up 0 (omega arith) in
     let q : 0 < a = pos in
-    let r = strict_shifted b (a - 1) os (tail_strict b o os t.up) (omega arith) in
+    let m : List ℕ = merge_behind c os in
+    let k = behind_strict b c os (tail_strict b o os t.up) in
+    let r = strict_shifted b (a - 1) m k.1 (omega arith) in
     let e : b + (a - 1) ≡ a + b - 1 = omega arith in
-    let l : a ≤ next (b + (a - 1)) (shifted (a - 1) os) = omega (arith, r.1) in
-    record { some = omega arith; first = s.first; up = subst (λ (x : ℕ). StrictUp x ((w ∷ ws) ++ shifted (a - 1) os)) e (strict_append (b + (a - 1)) (w ∷ ws) (shifted (a - 1) os) (strict_later a (next (b + (a - 1)) (shifted (a - 1) os)) (w ∷ ws) l s.up) r.2) }
+    let l : a ≤ next (b + (a - 1)) (shifted (a - 1) m) = omega (arith, r.1, k.0) in
+    record { some = omega arith; first = s.first; up = subst (λ (x : ℕ). StrictUp x ((w ∷ ws) ++ shifted (a - 1) m)) e (strict_append (b + (a - 1)) (w ∷ ws) (shifted (a - 1) m) (strict_later a (next (b + (a - 1)) (shifted (a - 1) m)) (w ∷ ws) l s.up) r.2) }
   where
     pos : 0 < a
     pos = let h : end_at a (w ∷ ws) 0 ≤ a = end_le a (w ∷ ws) 0 (sharp_steady a (w ∷ ws) s).up in let g : offset w < end_at a (w ∷ ws) 0 = s.up 0 (omega arith) in omega arith
+
+-- behind an output without equal neighbours there are none
+pub unlike_appended : (out : List ℕ) (a : ℕ) (piece : List ℕ) (b : ℕ) (r : Bool) → 0 < length out → unlike_neighbours out ≡ true → Sharp b piece → b + (a - 1) < 16777216 → unlike_neighbours (append_runs out a piece b r) ≡ true
+unfolding append_runs appendix
+unlike_appended out a piece b r some e s small =
+    let os : List ℕ = oriented r b piece in
+    let m : List ℕ = merge_behind (last_coord out) os in
+    let t = oriented_sharp r b piece (omega arith) s in
+    unlike_join out (shifted (a - 1) m) some e (unlike_shifted b (a - 1) small (last_coord out) m (strict_le b m (behind_strict b (last_coord out) os t.up).1) ∙ behind_unlike (last_coord out) os)
 
 -- a sharp list is its starts with the colours there
 pub rebuild : (n : ℕ) (ws : List ℕ) → Sharp n ws → runs_at (colours n ws) (starts ws) ≡ ws

@@ -1,188 +1,409 @@
--- Laws of colours merged into runs.
-use Prim.Native.Nat.{ℕ, zero, suc, ◌+◌, ◌-◌, ◌≤◌, ◌<◌}
-use mathlib.Core.Path.{◌≡◌, refl, sym, ap, ap₂, ◌∙◌}
-use mathlib.Core.Bool.{Bool, true, false, not, ◌||◌}
+-- Laws of lists of which equal neighbours are merged.
+use Prim.Native.Nat.{ℕ, suc, ◌+◌, ◌-◌, ◌/◌, ◌%◌, ◌≤◌, ◌<◌}
+use mathlib.Core.Path.{◌≡◌, refl, sym, ap, ap₂, ◌∙◌, subst}
+use mathlib.Core.Bool.{Bool, true, false, not, ◌&&◌}
 use mathlib.Core.List.{List, [], ◌∷◌, ◌++◌, append_assoc}
 use native.Mathlib.Omega.{arith}
-use native.Mathlib.Nat.{add-zero}
-use borrow.Author.Tests.{eq-eqb, ne_eqb, eqb-true, eqb-false}
-use lib.ListN.{length, drop, get_or, replicate, length-append}
-use lib.Seq.{get_or-append_seam}
+use borrow.Author.Tests.{eq-eqb, eqb-false, eqb-true, ne_eqb}
+use Rattle.std.specs.Int.{from_bool}
+use Rattle.std.specs.Prelude.{Option, Some, None}
+use lib.ListN.{length, drop, get_or, replicate, replicate-append-replicate}
+use lib.Seq.{drop-nil}
 use lib.Dec.{eqb}
-use Rattle.base.proofs.Bools.{false_true}
-use Rattle.runs.specs.Words.{offset, pack}
-use Rattle.runs.specs.Colours.{next, colours, starts}
+use Rattle.base.specs.Tests.{◌when◌else◌}
+use Rattle.base.proofs.Tests.{when_yes, when_no}
+use Rattle.base.proofs.Bools.{false_true, and_true, and_both}
+use Rattle.runs.specs.Words.{offset, coordinate, pack}
+use Rattle.runs.specs.Colours.{next, colours, last_coord}
+use Rattle.runs.specs.Orders.{sharp}
+use Rattle.runs.specs.Merge.{unless, merge_behind, merge, merged_count, unlike_behind, unlike_neighbours}
+use Rattle.runs.specs.Append.{shift, shifted, skip}
+use Rattle.runs.specs.Rotate.{merged}
+use Rattle.runs.specs.Reverse.{reverse_runs, oriented}
 use Rattle.runs.specs.Inside.Lists.{Sharp}
-use Rattle.runs.specs.Rotate.{unless, changes, firsts, runs_at, merged}
-use Rattle.runs.specs.Inside.Cursor.{begins, begun, merged_from}
-use Rattle.runs.proofs.Laws.Words.{offset_pack, coordinate_pack}
-use Rattle.runs.proofs.Laws.Orders.{StrictUp, strict_cons}
+use Rattle.runs.specs.Inside.Cursor.{begins, merged_from}
+use Rattle.runs.specs.Inside.Falls.{alike, fall, framed, mark, total}
+use Rattle.runs.specs.Inside.Pieces.{drops_first}
+use Rattle.runs.proofs.Laws.Words.{coordinate_pack, pack_of}
+use Rattle.runs.proofs.Laws.Orders.{Up, StrictUp, strict_cons, tail_up, next_le, last_cons, sharp_yes, strict_few}
+use Rattle.runs.proofs.Laws.Falls.{alike_few, marks_high, marks_low, sharp_spaced, spaced_framed, spaced_unframed, total_front, total_same}
+use Rattle.runs.proofs.Laws.Reverse.{length_reversed, oriented_long}
+use Rattle.runs.proofs.Laws.Merged.{begins_later, other_on, runs_merged, same_on}
 
-begins_no : (at c : ℕ) → 0 < at → begins at c c ≡ false
-unfolding begins
-begins_no at c h = rw (ne_eqb at 0 (λ e. omega arith), eq-eqb c c refl)
+-- ---- no equal neighbours
 
-pub begins_same : (at c d : ℕ) → begins at c d ≡ false → (0 < at) × (c ≡ d)
-unfolding begins
-begins_same at c d e = go (eqb at 0) refl (eqb c d) refl e
+pub behind_unlike : (c : ℕ) (ws : List ℕ) → unlike_behind c (merge_behind c ws) ≡ true
+unfolding merge_behind unlike_behind
+behind_unlike c [] = refl
+behind_unlike c (w ∷ ws) = go (eqb c (coordinate w)) refl (behind_unlike (coordinate w) ws)
   where
-    go : (t : Bool) → eqb at 0 ≡ t → (u : Bool) → eqb c d ≡ u → t || not u ≡ false → (0 < at) × (c ≡ d)
-    go true p u q r = false_true (sym r)
-    go false p true q r = (pos (eqb-false at 0 p), eqb-true c d q)
-      where
-        pos : (at ≡ 0 → ⊥) → 0 < at
-        pos h = omega (arith, h)
-    go false p false q r = false_true (sym r)
+    go : (t : Bool) → eqb c (coordinate w) ≡ t → unlike_behind (coordinate w) (merge_behind (coordinate w) ws) ≡ true → unlike_behind c (unless t w (merge_behind (coordinate w) ws)) ≡ true
+    go true e r = rw (eqb-true c (coordinate w) e) r
+    go false e r = rw e r
 
--- ---- vertices of one colour
+-- what is merged has none
+pub merge_unlike : (ws : List ℕ) → unlike_neighbours (merge ws) ≡ true
+unfolding merge unlike_neighbours
+merge_unlike [] = refl
+merge_unlike (w ∷ ws) = behind_unlike (coordinate w) ws
 
-same_on : (k at c : ℕ) (rest : List ℕ) → 0 < at → merged_from at c (replicate k c ++ rest) ≡ merged_from (at + k) c rest
-unfolding merged_from
-same_on zero at c rest h = ap (λ (x : ℕ). merged_from x c rest) (sym (add-zero at))
-same_on (suc k) at c rest h =
-    let e : at + 1 + k ≡ at + suc k = omega arith in
-    rw (begins_no at c h) (same_on k (at + 1) c rest (omega arith) ∙ ap (λ (x : ℕ). merged_from x c rest) e)
-
-other_on : (k at c d : ℕ) (rest : List ℕ) → begins at c d ≡ true → merged_from at c (replicate (suc k) d ++ rest) ≡ pack at d ∷ merged_from (at + suc k) d rest
-unfolding merged_from
-other_on k at c d rest h =
-    let e : at + 1 + k ≡ at + suc k = omega arith in
-    rw h (ap (λ (l : List ℕ). pack at d ∷ l) (same_on k (at + 1) d rest (omega arith) ∙ ap (λ (x : ℕ). merged_from x d rest) e))
-
-module _ (xs : List ℕ) (at end c d : ℕ) (up : at ≤ end) (vertices : drop at xs ≡ replicate (end - at) d ++ drop end xs) where
-  pub goes_on : begins at c d ≡ false → merged_from at c (drop at xs) ≡ merged_from end c (drop end xs)
-  goes_on b =
-      let f = begins_same at c d b in
-      let k : at + (end - at) ≡ end = omega arith in
-      ap (merged_from at c) (vertices ∙ ap (λ (x : ℕ). replicate (end - at) x ++ drop end xs) (sym f.1)) ∙ same_on (end - at) at c (drop end xs) f.0 ∙ ap (λ (x : ℕ). merged_from x c (drop end xs)) k
-
-  pub gives : at < end → begins at c d ≡ true → merged_from at c (drop at xs) ≡ pack at d ∷ merged_from end d (drop end xs)
-  gives h b =
-      let k : end - at ≡ suc (end - at - 1) = omega arith in
-      let e : at + suc (end - at - 1) ≡ end = omega arith in
-      ap (merged_from at c) (vertices ∙ ap (λ (x : ℕ). replicate x d ++ drop end xs) k) ∙ other_on (end - at - 1) at c d (drop end xs) b ∙ ap (λ (x : ℕ). pack at d ∷ merged_from x d (drop end xs)) e
-
--- ---- run by run, and by the vertices where a run starts
-
-begins_later : (at c d : ℕ) → 0 < at → begins at c d ≡ not (eqb c d)
-unfolding begins
-begins_later at c d h = rw (ne_eqb at 0 (λ e. omega arith))
-
-runs_changes : (all pre cs : List ℕ) (c at : ℕ) → at ≡ length pre → 0 < at → all ≡ pre ++ cs → merged_from at c cs ≡ runs_at all (changes c at cs)
-unfolding merged_from changes runs_at
-runs_changes all pre [] c at l h e = refl
-runs_changes all pre (d ∷ cs) c at l h e =
-    rw (begins_later at c d h) (go (eqb c d) (runs_changes all (pre ++ (d ∷ [])) cs d (at + 1) (longer ∙ sym (length-append pre (d ∷ []))) (omega arith) (e ∙ sym (append_assoc pre (d ∷ []) cs))))
+pub behind_same : (c : ℕ) (ws : List ℕ) → unlike_behind c ws ≡ true → merge_behind c ws ≡ ws
+unfolding merge_behind unlike_behind
+behind_same c [] e = refl
+behind_same c (w ∷ ws) e = let a = and_true _ _ e in go (eqb c (coordinate w)) a.0 (behind_same (coordinate w) ws a.1)
   where
-    longer : at + 1 ≡ length pre + length (d ∷ [])
-    longer = omega (arith, l)
+    go : (t : Bool) → not t ≡ true → merge_behind (coordinate w) ws ≡ ws → unless t w (merge_behind (coordinate w) ws) ≡ w ∷ ws
+    go true h r = false_true h
+    go false h r = ap (λ (l : List ℕ). w ∷ l) r
 
-    here : get_or all at 0 ≡ d
-    here = ap₂ (λ (x : List ℕ) (i : ℕ). get_or x i 0) e l ∙ get_or-append_seam pre d cs 0
+-- a list that has none stays as it is
+pub merge_same : (ws : List ℕ) → unlike_neighbours ws ≡ true → merge ws ≡ ws
+unfolding merge unlike_neighbours
+merge_same [] e = refl
+merge_same (w ∷ ws) e = ap (λ (l : List ℕ). w ∷ l) (behind_same (coordinate w) ws e)
 
-    go : (t : Bool) → merged_from (at + 1) d cs ≡ runs_at all (changes d (at + 1) cs)
-        → begun (not t) (pack at d) (merged_from (at + 1) d cs) ≡ runs_at all (unless t at (changes d (at + 1) cs))
-    go true r = r
-    go false r = ap₂ (λ (x : ℕ) (l : List ℕ). x ∷ l) (ap (pack at) (sym here)) r
+-- merging twice is merging once
+pub merge_twice : (ws : List ℕ) → merge (merge ws) ≡ merge ws
+merge_twice ws = merge_same (merge ws) (merge_unlike ws)
 
-pub runs_merged : (cs : List ℕ) → merged_from 0 0 cs ≡ merged cs
-unfolding merged_from begins merged runs_at firsts
-runs_merged [] = refl
-runs_merged (c ∷ cs) = ap (λ (l : List ℕ). pack 0 c ∷ l) (runs_changes (c ∷ cs) (c ∷ []) cs c 1 refl (omega arith) refl)
+-- ---- colours
 
--- ---- the colours of merged colours are the colours
-
--- the runs xs from vertex `at` on, behind a vertex of colour c, give the colours cs
-Gives : ℕ → ℕ → ℕ → List ℕ → List ℕ → Type 0
-Gives n at c xs cs = (at ≤ next n xs) × (replicate (next n xs - at) c ++ colours n xs ≡ cs)
-
-new_run : (n at d : ℕ) (ys cs : List ℕ) → at < 16777216 → Gives n (at + 1) d ys cs → colours n (pack at d ∷ ys) ≡ d ∷ cs
-unfolding Gives colours
-new_run n at d ys cs small g =
-    let o : offset (pack at d) ≡ at = offset_pack at d small in
-    let k : next n ys - offset (pack at d) ≡ suc (next n ys - (at + 1)) = omega (arith, g.0) in
-    ap₂ (λ (x y : ℕ). replicate x y ++ colours n ys) k (coordinate_pack at d small) ∙ ap (λ (l : List ℕ). d ∷ l) g.1
-
-after_colours : (n at c : ℕ) (cs : List ℕ) → 0 < at → at + length cs ≡ n → n < 16777216 → Gives n at c (merged_from at c cs) cs
-unfolding merged_from colours Gives
-after_colours n at c [] h e small = let z : n - at ≡ 0 = omega arith in (omega arith, rw z)
-after_colours n at c (d ∷ cs) h e small = go (begins at c d) refl (after_colours n (at + 1) d cs (omega arith) (omega arith) small)
+-- from vertex `at` on, behind vertices of colour c
+pub behind_colours : (n at c : ℕ) (ws : List ℕ) → Up n ws → at ≤ next n ws
+    → (at ≤ next n (merge_behind c ws)) × (replicate (next n (merge_behind c ws) - at) c ++ colours n (merge_behind c ws) ≡ replicate (next n ws - at) c ++ colours n ws)
+unfolding merge_behind colours
+behind_colours n at c [] u h = (h, refl)
+behind_colours n at c (w ∷ ws) u h = go (eqb c (coordinate w)) refl (behind_colours n (offset w) (coordinate w) ws (tail_up n w ws u) (u 0 (omega arith)))
   where
-    go : (t : Bool) → begins at c d ≡ t → Gives n (at + 1) d (merged_from (at + 1) d cs) cs → Gives n at c (begun t (pack at d) (merged_from (at + 1) d cs)) (d ∷ cs)
-    go true b f =
-        let o : offset (pack at d) ≡ at = offset_pack at d (omega arith) in
-        let z : offset (pack at d) - at ≡ 0 = omega arith in
-        (omega arith, ap (λ (k : ℕ). replicate k c ++ colours n (pack at d ∷ merged_from (at + 1) d cs)) z ∙ new_run n at d (merged_from (at + 1) d cs) cs (omega arith) f)
-    go false b f =
-        let q : c ≡ d = (begins_same at c d b).1 in
-        let k : next n (merged_from (at + 1) d cs) - at ≡ suc (next n (merged_from (at + 1) d cs) - (at + 1)) = omega (arith, f.0) in
-        (omega (arith, f.0), ap₂ (λ (x y : ℕ). replicate x y ++ colours n (merged_from (at + 1) d cs)) k q ∙ ap (λ (l : List ℕ). d ∷ l) f.1)
+    m : List ℕ
+    m = merge_behind (coordinate w) ws
 
-colours_from : (cs : List ℕ) → length cs < 16777216 → colours (length cs) (merged_from 0 0 cs) ≡ cs
-unfolding merged_from colours begins
-colours_from [] h = refl
-colours_from (c ∷ cs) h = new_run (length (c ∷ cs)) 0 c (merged_from 1 c cs) cs (omega arith) (after_colours (length (c ∷ cs)) 1 c cs (omega arith) (omega arith) h)
+    go : (t : Bool) → eqb c (coordinate w) ≡ t → (offset w ≤ next n m) × (replicate (next n m - offset w) (coordinate w) ++ colours n m ≡ replicate (next n ws - offset w) (coordinate w) ++ colours n ws)
+        → (at ≤ next n (unless t w m)) × (replicate (next n (unless t w m) - at) c ++ colours n (unless t w m) ≡ replicate (offset w - at) c ++ (replicate (next n ws - offset w) (coordinate w) ++ colours n ws))
+    go true e r =
+        let q : c ≡ coordinate w = eqb-true c (coordinate w) e in
+        let k : next n m - at ≡ offset w - at + (next n m - offset w) = omega (arith, r.0) in
+        let a : replicate (next n m - at) c ≡ replicate (offset w - at) c ++ replicate (next n m - offset w) (coordinate w) = ap (λ (x : ℕ). replicate x c) k ∙ sym (replicate-append-replicate (offset w - at) (next n m - offset w) c) ∙ ap (λ (x : ℕ). replicate (offset w - at) c ++ replicate (next n m - offset w) x) q in (
+          omega (arith, r.0),
+          ap (λ (l : List ℕ). l ++ colours n m) a ∙ append_assoc (replicate (offset w - at) c) (replicate (next n m - offset w) (coordinate w)) (colours n m) ∙ ap (λ (l : List ℕ). replicate (offset w - at) c ++ l) r.1,
+        )
+    go false e r = (h, ap (λ (l : List ℕ). replicate (offset w - at) c ++ l) r.1)
 
-pub colours_merged : (cs : List ℕ) → length cs < 16777216 → colours (length cs) (merged cs) ≡ cs
-colours_merged cs h = ap (colours (length cs)) (sym (runs_merged cs)) ∙ colours_from cs h
+-- vertex by vertex, the colours stay
+pub merge_colours : (n : ℕ) (ws : List ℕ) → Up n ws → colours n (merge ws) ≡ colours n ws
+unfolding merge colours
+merge_colours n [] u = refl
+merge_colours n (w ∷ ws) u = (behind_colours n (offset w) (coordinate w) ws (tail_up n w ws u) (u 0 (omega arith))).1
 
--- ---- merged colours are sharp
+-- ---- what is merged of a sharp list is sharp, and is the runs of its colours
 
-after_strict : (n at c : ℕ) (cs : List ℕ) → at + length cs ≡ n → n < 16777216 → (at ≤ next n (merged_from at c cs)) × StrictUp n (merged_from at c cs)
-unfolding merged_from
-after_strict n at c [] e small = (omega arith, λ i l. absurd (omega arith))
-after_strict n at c (d ∷ cs) e small = go (begins at c d) (after_strict n (at + 1) d cs (omega arith) small)
+pub behind_strict : (n c : ℕ) (ws : List ℕ) → StrictUp n ws → (next n ws ≤ next n (merge_behind c ws)) × StrictUp n (merge_behind c ws)
+unfolding merge_behind
+behind_strict n c [] u = (omega arith, λ i l. absurd (omega arith))
+behind_strict n c (w ∷ ws) u = go (eqb c (coordinate w)) (u 0 (omega arith)) (behind_strict n (coordinate w) ws (λ i l. u (suc i) (omega arith)))
   where
-    go : (t : Bool) → (at + 1 ≤ next n (merged_from (at + 1) d cs)) × StrictUp n (merged_from (at + 1) d cs)
-        → (at ≤ next n (begun t (pack at d) (merged_from (at + 1) d cs))) × StrictUp n (begun t (pack at d) (merged_from (at + 1) d cs))
-    go true f =
-        let o : offset (pack at d) ≡ at = offset_pack at d (omega arith) in
-        (omega arith, strict_cons n (pack at d) (merged_from (at + 1) d cs) (omega (arith, f.0)) f.1)
-    go false f = (omega (arith, f.0), f.1)
+    m : List ℕ
+    m = merge_behind (coordinate w) ws
 
-from_sharp : (c : ℕ) (cs : List ℕ) → length (c ∷ cs) < 16777216 → Sharp (length (c ∷ cs)) (merged_from 0 0 (c ∷ cs))
-unfolding merged_from begins
-from_sharp c cs h = record { some = omega arith; first = offset_pack 0 c (omega arith); up = (after_strict (length (c ∷ cs)) 0 0 (c ∷ cs) (omega arith) h).1 }
+    go : (t : Bool) → offset w < next n ws → (next n ws ≤ next n m) × StrictUp n m → (offset w ≤ next n (unless t w m)) × StrictUp n (unless t w m)
+    go true h r = (omega (arith, r.0), r.1)
+    go false h r = (omega arith, strict_cons n w m (omega (arith, r.0)) r.1)
 
-pub merged_sharp : (cs : List ℕ) → 0 < length cs → length cs < 16777216 → Sharp (length cs) (merged cs)
-merged_sharp [] h small = absurd (omega arith)
-merged_sharp (c ∷ cs) h small = rw (← runs_merged (c ∷ cs)) (from_sharp c cs small)
-
--- ---- how many runs, and where they start
-
-from_long : (at c : ℕ) (cs : List ℕ) → length (merged_from at c cs) ≤ length cs
-unfolding merged_from
-from_long at c [] = omega arith
-from_long at c (d ∷ cs) = go (begins at c d) (from_long (at + 1) d cs)
+pub merge_sharp : (n : ℕ) (ws : List ℕ) → Sharp n ws → Sharp n (merge ws)
+unfolding merge
+merge_sharp n [] s = absurd (none s.some)
   where
-    go : (t : Bool) → length (merged_from (at + 1) d cs) ≤ length cs → length (begun t (pack at d) (merged_from (at + 1) d cs)) ≤ suc (length cs)
-    go true h = omega arith
-    go false h = omega arith
+    none : 0 < 0 → ⊥
+    none h = omega arith
+merge_sharp n (w ∷ ws) s =
+    let r = behind_strict n (coordinate w) ws (λ i l. s.up (suc i) (omega arith)) in
+    let u : offset w < next n ws = s.up 0 (omega arith) in
+    record { some = omega arith; first = s.first; up = strict_cons n w (merge_behind (coordinate w) ws) (omega (arith, r.0)) r.1 }
 
-pub length_merged : (cs : List ℕ) → length (merged cs) ≤ length cs
-length_merged cs = rw (← runs_merged cs) (from_long 0 0 cs)
-
-starts_changes : (all : List ℕ) (c at : ℕ) (cs : List ℕ) → at + length cs < 16777216 → starts (runs_at all (changes c at cs)) ≡ changes c at cs
-unfolding changes runs_at
-starts_changes all c at [] h = refl
-starts_changes all c at (d ∷ cs) h = go (eqb c d) (starts_changes all d (at + 1) cs (omega arith))
+behind_merged : (n c : ℕ) (ws : List ℕ) → StrictUp n ws → 0 < next n ws → merged_from (next n ws) c (colours n ws) ≡ merge_behind c ws
+unfolding merge_behind merged_from colours
+behind_merged n c [] u h = refl
+behind_merged n c (w ∷ ws) u h = go (eqb c (coordinate w)) refl (u 0 (omega arith)) (λ g. behind_merged n (coordinate w) ws (λ i l. u (suc i) (omega arith)) g)
   where
-    go : (t : Bool) → starts (runs_at all (changes d (at + 1) cs)) ≡ changes d (at + 1) cs → starts (runs_at all (unless t at (changes d (at + 1) cs))) ≡ unless t at (changes d (at + 1) cs)
-    go true r = r
-    go false r = ap₂ (λ (x : ℕ) (l : List ℕ). x ∷ l) (offset_pack at (get_or all at 0) (omega arith)) r
+    go : (t : Bool) → eqb c (coordinate w) ≡ t → offset w < next n ws → (0 < next n ws → merged_from (next n ws) (coordinate w) (colours n ws) ≡ merge_behind (coordinate w) ws)
+        → merged_from (offset w) c (replicate (next n ws - offset w) (coordinate w) ++ colours n ws) ≡ unless t w (merge_behind (coordinate w) ws)
+    go true e l r =
+        let q : c ≡ coordinate w = eqb-true c (coordinate w) e in
+        let k : offset w + (next n ws - offset w) ≡ next n ws = omega arith in
+        rw q (same_on (next n ws - offset w) (offset w) (coordinate w) (colours n ws) h ∙ ap (λ (x : ℕ). merged_from x (coordinate w) (colours n ws)) k ∙ r (omega arith))
+    go false e l r =
+        let j : ℕ = next n ws - offset w - 1 in
+        let a : next n ws - offset w ≡ suc j = omega arith in
+        let k : offset w + suc j ≡ next n ws = omega arith in
+        let b : begins (offset w) c (coordinate w) ≡ true = rw (begins_later (offset w) c (coordinate w) h, e) refl in
+        ap (λ (x : ℕ). merged_from (offset w) c (replicate x (coordinate w) ++ colours n ws)) a
+        ∙ other_on j (offset w) c (coordinate w) (colours n ws) b
+        ∙ ap₂ (λ (x y : ℕ). x ∷ merged_from y (coordinate w) (colours n ws)) (pack_of w) k
+        ∙ ap (λ (l : List ℕ). w ∷ l) (r (omega arith))
 
--- merged colours start at vertex 0 and at each vertex unlike the one before
-pub starts_merged : (cs : List ℕ) → length cs < 16777216 → starts (merged cs) ≡ firsts cs
-unfolding merged runs_at firsts
-starts_merged [] h = refl
-starts_merged (c ∷ cs) h = ap₂ (λ (x : ℕ) (l : List ℕ). x ∷ l) (offset_pack 0 c (omega arith)) (starts_changes (c ∷ cs) c 1 cs (omega arith))
-
--- the runs ahead are no more than the vertices ahead
-pub length_from : (at c : ℕ) (cs : List ℕ) → length (merged_from at c cs) ≤ length cs
-unfolding merged_from
-length_from at c [] = omega arith
-length_from at c (d ∷ cs) = go (begins at c d) (length_from (at + 1) d cs)
+pub merge_merged : (n : ℕ) (ws : List ℕ) → Sharp n ws → merge ws ≡ merged (colours n ws)
+unfolding merge colours begins
+merge_merged n [] s = absurd (none s.some)
   where
-    go : (t : Bool) → length (merged_from (at + 1) d cs) ≤ length cs → length (begun t (pack at d) (merged_from (at + 1) d cs)) ≤ suc (length cs)
-    go true h = omega arith
-    go false h = omega arith
+    none : 0 < 0 → ⊥
+    none h = omega arith
+merge_merged n (w ∷ ws) s =
+    let u : offset w < next n ws = s.up 0 (omega arith) in
+    let z : offset w ≡ 0 = s.first in
+    let j : ℕ = next n ws - 1 in
+    let a : next n ws - offset w ≡ suc j = omega arith in
+    let k : 0 + suc j ≡ next n ws = omega arith in
+    let p : pack 0 (coordinate w) ≡ w = ap (λ (x : ℕ). pack x (coordinate w)) (sym z) ∙ pack_of w in
+    sym
+    (sym (runs_merged (replicate (next n ws - offset w) (coordinate w) ++ colours n ws))
+    ∙ ap (λ (x : ℕ). merged_from 0 0 (replicate x (coordinate w) ++ colours n ws)) a
+    ∙ other_on j 0 0 (coordinate w) (colours n ws) refl
+    ∙ ap₂ (λ (x y : ℕ). x ∷ merged_from y (coordinate w) (colours n ws)) p k
+    ∙ ap (λ (l : List ℕ). w ∷ l) (behind_merged n (coordinate w) ws (λ i l. s.up (suc i) (omega arith)) (omega arith)))
+
+-- ---- how many runs are left out
+
+unfoldable one_if : Bool → ℕ
+one_if true = 1
+one_if false = 0
+
+unfoldable repeats_behind : ℕ → List ℕ → ℕ
+repeats_behind c [] = 0
+repeats_behind c (w ∷ ws) = one_if (eqb c (coordinate w)) + repeats_behind (coordinate w) ws
+
+unfoldable repeats : List ℕ → ℕ
+repeats [] = 0
+repeats (w ∷ ws) = repeats_behind (coordinate w) ws
+
+behind_count : (c : ℕ) (ws : List ℕ) → length (merge_behind c ws) + repeats_behind c ws ≡ length ws
+unfolding merge_behind one_if repeats_behind
+behind_count c [] = omega arith
+behind_count c (w ∷ ws) = go (eqb c (coordinate w)) (behind_count (coordinate w) ws)
+  where
+    go : (t : Bool) → length (merge_behind (coordinate w) ws) + repeats_behind (coordinate w) ws ≡ length ws → length (unless t w (merge_behind (coordinate w) ws)) + (one_if t + repeats_behind (coordinate w) ws) ≡ suc (length ws)
+    go true r = omega arith
+    go false r = omega arith
+
+merge_count : (ws : List ℕ) → length (merge ws) + repeats ws ≡ length ws
+unfolding merge repeats
+merge_count [] = omega arith
+merge_count (w ∷ ws) = omega (arith, behind_count (coordinate w) ws)
+
+alike_first : (w v : ℕ) (vs : List ℕ) → one_if (eqb (coordinate w) (coordinate v)) ≡ alike (w ∷ v ∷ vs) 0
+unfolding one_if alike ◌when◌else◌
+alike_first w v vs = go (eqb (coordinate w) (coordinate v))
+  where
+    go : (t : Bool) → one_if t ≡ ◌when◌else◌ {A = ℕ} 1 t 0
+    go true = refl
+    go false = refl
+
+alike_next : (w : ℕ) (ws : List ℕ) (p : ℕ) → alike ws p ≡ alike (w ∷ ws) (suc p)
+unfolding alike
+alike_next w ws p =
+    let e : suc p + 1 ≡ suc (p + 1) = omega arith in
+    ap (λ (k : ℕ). ◌when◌else◌ {A = ℕ} 1 (eqb (coordinate (get_or ws p 0)) (coordinate (get_or (w ∷ ws) k 0))) 0) (sym e)
+
+repeats_total : (ws : List ℕ) → repeats ws ≡ total (alike ws) 0 (length ws - 1)
+unfolding total alike repeats repeats_behind
+repeats_total [] = let z : 0 ≡ 0 - 1 = omega arith in ap (total (alike []) 0) z
+repeats_total (w ∷ []) = let z : 0 ≡ suc 0 - 1 = omega arith in ap (total (alike (w ∷ [])) 0) z
+repeats_total (w ∷ v ∷ vs) =
+    let k : suc (length vs) - 1 ≡ length vs = omega arith in
+    let l : suc (length vs) ≡ suc (suc (length vs)) - 1 = omega arith in
+    ap₂ (λ (x y : ℕ). x + y) (alike_first w v vs) (repeats_total (v ∷ vs) ∙ ap (total (alike (v ∷ vs)) 0) k ∙ total_same (alike (v ∷ vs)) (λ (p : ℕ). alike (w ∷ v ∷ vs) (suc p)) (alike_next w (v ∷ vs)) 0 (length vs))
+    ∙ sym (total_front (alike (w ∷ v ∷ vs)) (length vs))
+    ∙ ap (total (alike (w ∷ v ∷ vs)) 0) l
+
+-- as many as places at which neighbours are alike
+pub merge_long : (ws : List ℕ) → length (merge ws) + total (alike ws) 0 (length ws - 1) ≡ length ws
+merge_long ws = ap (λ (x : ℕ). length (merge ws) + x) (sym (repeats_total ws)) ∙ merge_count ws
+
+-- ---- from the other end as many
+
+eqb_swap : (a b : ℕ) → eqb a b ≡ eqb b a
+eqb_swap a b = go (eqb a b) refl
+  where
+    go : (t : Bool) → eqb a b ≡ t → t ≡ eqb b a
+    go true e = sym (eq-eqb b a (sym (eqb-true a b e)))
+    go false e = sym (ne_eqb b a (λ q. eqb-false a b e (sym q)))
+
+behind_last : (c : ℕ) (ys : List ℕ) (v w : ℕ) → repeats_behind c ((ys ++ (v ∷ [])) ++ (w ∷ [])) ≡ repeats_behind c (ys ++ (v ∷ [])) + one_if (eqb (coordinate v) (coordinate w))
+unfolding repeats_behind
+behind_last c [] v w = omega arith
+behind_last c (y ∷ ys) v w = omega (arith, behind_last (coordinate y) ys v w)
+
+repeats_last : (ys : List ℕ) (v w : ℕ) → repeats ((ys ++ (v ∷ [])) ++ (w ∷ [])) ≡ repeats (ys ++ (v ∷ [])) + one_if (eqb (coordinate v) (coordinate w))
+unfolding repeats repeats_behind
+repeats_last [] v w = omega arith
+repeats_last (y ∷ ys) v w = behind_last (coordinate y) ys v w
+
+reversed_repeats : (n : ℕ) (ws : List ℕ) → n < 16777216 → repeats (reverse_runs n ws) ≡ repeats ws
+unfolding reverse_runs repeats repeats_behind
+reversed_repeats n [] small = refl
+reversed_repeats n (w ∷ []) small = refl
+reversed_repeats n (w ∷ v ∷ vs) small =
+    let x : ℕ = pack (n - next n vs) (coordinate v) in
+    let y : ℕ = pack (n - offset v) (coordinate w) in
+    let cx : coordinate x ≡ coordinate v = coordinate_pack (n - next n vs) (coordinate v) (omega arith) in
+    let cy : coordinate y ≡ coordinate w = coordinate_pack (n - offset v) (coordinate w) (omega arith) in
+    repeats_last (reverse_runs n vs) x y
+    ∙ ap₂ (λ (k l : ℕ). k + l) (reversed_repeats n (v ∷ vs) small) (ap₂ (λ (a b : ℕ). one_if (eqb a b)) cx cy ∙ ap one_if (eqb_swap (coordinate v) (coordinate w)))
+    ∙ omega arith
+
+pub merge_oriented_long : (r : Bool) (n : ℕ) (ws : List ℕ) → n < 16777216 → length (merge (oriented r n ws)) ≡ length (merge ws)
+merge_oriented_long true n ws small = omega (arith, merge_count (reverse_runs n ws), merge_count ws, reversed_repeats n ws small, length_reversed n ws)
+merge_oriented_long false n ws small = refl
+
+-- ---- whole where there are no equal neighbours, and only there
+
+pub behind_le : (c : ℕ) (ws : List ℕ) → length (merge_behind c ws) ≤ length ws
+behind_le c ws = omega (arith, behind_count c ws)
+
+pub merge_le : (ws : List ℕ) → length (merge ws) ≤ length ws
+merge_le ws = omega (arith, merge_count ws)
+
+pub behind_whole : (c : ℕ) (ws : List ℕ) → length (merge_behind c ws) ≡ length ws → unlike_behind c ws ≡ true
+unfolding merge_behind unlike_behind
+behind_whole c [] e = refl
+behind_whole c (w ∷ ws) e = go (eqb c (coordinate w)) e (behind_whole (coordinate w) ws)
+  where
+    go : (t : Bool) → length (unless t w (merge_behind (coordinate w) ws)) ≡ suc (length ws) → (length (merge_behind (coordinate w) ws) ≡ length ws → unlike_behind (coordinate w) ws ≡ true) → (not t && unlike_behind (coordinate w) ws) ≡ true
+    go true h r = absurd (omega (arith, h, behind_le (coordinate w) ws))
+    go false h r = r (omega (arith, h))
+
+pub merge_whole : (ws : List ℕ) → length (merge ws) ≡ length ws → unlike_neighbours ws ≡ true
+unfolding merge unlike_neighbours
+merge_whole [] e = refl
+merge_whole (w ∷ ws) e = behind_whole (coordinate w) ws (omega (arith, e))
+
+-- from the other end as well
+pub oriented_unlike : (r : Bool) (n : ℕ) (ws : List ℕ) → n < 16777216 → unlike_neighbours ws ≡ true → unlike_neighbours (oriented r n ws) ≡ true
+oriented_unlike r n ws small e = merge_whole (oriented r n ws) (merge_oriented_long r n ws small ∙ ap length (merge_same ws e) ∙ sym (oriented_long r n ws))
+
+pub unlike_oriented : (r : Bool) (n : ℕ) (ws : List ℕ) → n < 16777216 → unlike_neighbours (oriented r n ws) ≡ true → unlike_neighbours ws ≡ true
+unlike_oriented r n ws small e = merge_whole ws (sym (merge_oriented_long r n ws small) ∙ ap length (merge_same (oriented r n ws) e) ∙ oriented_long r n ws)
+
+-- ---- the first run
+
+-- behind a run of coordinate c the merged list's first run is left out where it has the same
+pub behind_first : (c : ℕ) (ws : List ℕ) → merge_behind c ws ≡ drop (skip c ws) (merge ws)
+unfolding merge_behind merge skip ◌when◌else◌
+behind_first c [] = sym (drop-nil (skip c []))
+behind_first c (w ∷ ws) = go (eqb c (coordinate w))
+  where
+    go : (t : Bool) → unless t w (merge_behind (coordinate w) ws) ≡ drop (◌when◌else◌ {A = ℕ} 1 t 0) (w ∷ merge_behind (coordinate w) ws)
+    go true = refl
+    go false = refl
+
+-- a run of that coordinate is left out
+pub behind_own : (w : ℕ) (ws : List ℕ) → merge_behind (coordinate w) (w ∷ ws) ≡ merge_behind (coordinate w) ws
+unfolding merge_behind
+behind_own w ws = rw (eq-eqb (coordinate w) (coordinate w) refl) refl
+
+pub behind_drops : (c : ℕ) (ws : List ℕ) → 0 < length ws → length (merge_behind c ws) + from_bool (drops_first c ws) ≡ length (merge ws)
+unfolding merge_behind merge
+behind_drops c [] h = absurd (omega arith)
+behind_drops c (w ∷ ws) h = go (eqb c (coordinate w))
+  where
+    go : (t : Bool) → length (unless t w (merge_behind (coordinate w) ws)) + from_bool t ≡ suc (length (merge_behind (coordinate w) ws))
+    go true = omega arith
+    go false = omega arith
+
+pub merge_some : (ws : List ℕ) → 0 < length ws → 0 < length (merge ws)
+unfolding merge
+merge_some [] h = h
+merge_some (w ∷ ws) h = omega arith
+
+-- ---- moved, they are merged as they were
+
+pub shift_coordinate : (k w : ℕ) → offset w + k < 16777216 → coordinate (shift k w) ≡ coordinate w
+shift_coordinate k w h = coordinate_pack (offset w + k) (coordinate w) h
+
+module _ (n k : ℕ) (small : n + k < 16777216) where
+  first_stays : (w : ℕ) (ws : List ℕ) → Up n (w ∷ ws) → coordinate (shift k w) ≡ coordinate w
+  first_stays w ws u = shift_coordinate k w (omega (arith, u 0 (omega arith), next_le n ws (tail_up n w ws u)))
+
+  pub merge_shifted : (c : ℕ) (ws : List ℕ) → Up n ws → merge_behind c (shifted k ws) ≡ shifted k (merge_behind c ws)
+  unfolding merge_behind shifted
+  merge_shifted c [] u = refl
+  merge_shifted c (w ∷ ws) u = rw (first_stays w ws u) (go (eqb c (coordinate w)) (merge_shifted (coordinate w) ws (tail_up n w ws u)))
+    where
+      go : (t : Bool) → merge_behind (coordinate w) (shifted k ws) ≡ shifted k (merge_behind (coordinate w) ws) → unless t (shift k w) (merge_behind (coordinate w) (shifted k ws)) ≡ shifted k (unless t w (merge_behind (coordinate w) ws))
+      go true r = r
+      go false r = ap (λ (l : List ℕ). shift k w ∷ l) r
+
+  pub unlike_shifted : (c : ℕ) (ws : List ℕ) → Up n ws → unlike_behind c (shifted k ws) ≡ unlike_behind c ws
+  unfolding unlike_behind shifted
+  unlike_shifted c [] u = refl
+  unlike_shifted c (w ∷ ws) u = rw (first_stays w ws u) (ap (λ (t : Bool). not (eqb c (coordinate w)) && t) (unlike_shifted (coordinate w) ws (tail_up n w ws u)))
+
+-- ---- one list behind another
+
+behind_join : (c w : ℕ) (ws ys : List ℕ) → unlike_behind c (w ∷ ws) ≡ true → unlike_behind (last_coord (w ∷ ws)) ys ≡ true → unlike_behind c ((w ∷ ws) ++ ys) ≡ true
+unfolding unlike_behind
+behind_join c w [] ys e f = let a = and_true _ _ e in and_both _ _ a.0 f
+behind_join c w (v ∷ ws) ys e f =
+    let a = and_true _ _ e in
+    and_both _ _ a.0 (behind_join (coordinate w) v ws ys a.1 (subst (λ (x : ℕ). unlike_behind (coordinate x) ys ≡ true) (last_cons w v ws) f))
+
+pub unlike_join : (xs ys : List ℕ) → 0 < length xs → unlike_neighbours xs ≡ true → unlike_behind (last_coord xs) ys ≡ true → unlike_neighbours (xs ++ ys) ≡ true
+unfolding unlike_neighbours unlike_behind
+unlike_join [] ys h e f = absurd (omega arith)
+unlike_join (w ∷ []) ys h e f = f
+unlike_join (w ∷ v ∷ ws) ys h e f = behind_join (coordinate w) v ws ys e (subst (λ (x : ℕ). unlike_behind (coordinate x) ys ≡ true) (last_cons w v ws) f)
+
+-- ---- the count and the test
+
+module _ (n : ℕ) (ws : List ℕ) where
+  pub count_none : sharp n ws ≡ false → ◌≡◌ {A = Option ℕ} None (merged_count n ws)
+  unfolding merged_count
+  count_none e = sym (when_no _ _ _ e)
+
+  pub count_some : (k : ℕ) → sharp n ws ≡ true → k ≡ length (merge ws) → ◌≡◌ {A = Option ℕ} (Some k) (merged_count n ws)
+  unfolding merged_count
+  count_some k e h = ap Some h ∙ sym (when_yes _ _ _ e)
+
+  -- what its answer tells
+  pub none_count : ◌≡◌ {A = Option ℕ} None (merged_count n ws) → sharp n ws ≡ false
+  unfolding merged_count ◌when◌else◌
+  none_count e = go (sharp n ws) refl e
+    where
+      go : (t : Bool) → sharp n ws ≡ t → ◌≡◌ {A = Option ℕ} None (◌when◌else◌ (Some (length (merge ws))) t None) → sharp n ws ≡ false
+      go true q h = let z : ◌≡◌ {A = ℕ} 0 1 = cc in absurd (omega arith)
+      go false q h = q
+
+  pub some_count : (k : ℕ) → ◌≡◌ {A = Option ℕ} (Some k) (merged_count n ws) → (sharp n ws ≡ true) × (k ≡ length (merge ws))
+  unfolding merged_count ◌when◌else◌
+  some_count k e = go (sharp n ws) refl e
+    where
+      go : (t : Bool) → sharp n ws ≡ t → ◌≡◌ {A = Option ℕ} (Some k) (◌when◌else◌ (Some (length (merge ws))) t None) → (sharp n ws ≡ true) × (k ≡ length (merge ws))
+      go true q h = (q, cc)
+      go false q h = let z : ◌≡◌ {A = ℕ} 0 1 = cc in absurd (omega arith)
+
+  -- a list of more runs than vertices isn't sharp
+  pub too_many : n < length ws → sharp n ws ≡ false
+  too_many h = go (sharp n ws) refl
+    where
+      go : (t : Bool) → sharp n ws ≡ t → sharp n ws ≡ false
+      go true e = absurd (omega (arith, strict_few n ws (sharp_yes n ws e).up))
+      go false e = e
+
+  module _ (some : 0 < length ws) where
+    pub unframed_count : framed 1 n ws ≡ false → ◌≡◌ {A = Option ℕ} None (merged_count n ws)
+    unframed_count e = count_none (sharp_spaced n ws some ∙ sym (spaced_unframed 1 n ws e))
+
+    module _ (frame : framed 1 n ws ≡ true) (few : length ws ≤ n) (small : n < 4294967296) (marks : ℕ) (are : marks ≡ total (mark 1 4294967296 ws) 0 (length ws - 1)) where
+      low : marks % 4294967296 ≡ total (fall 1 ws) 0 (length ws - 1)
+      low = ap (λ (m : ℕ). m % 4294967296) are ∙ marks_low 1 ws (length ws - 1) (omega arith)
+
+      high : marks / 4294967296 ≡ total (alike ws) 0 (length ws - 1)
+      high = ap (λ (m : ℕ). m / 4294967296) are ∙ marks_high 1 ws (length ws - 1) (omega arith)
+
+      pub alike_inside : marks / 4294967296 ≤ length ws
+      alike_inside = omega (arith, high, alike_few 1 ws (length ws - 1) (omega arith))
+
+      pub falling_count : (marks % 4294967296 ≡ 0 → ⊥) → ◌≡◌ {A = Option ℕ} None (merged_count n ws)
+      falling_count e = count_none (sharp_spaced n ws some ∙ sym (spaced_framed 1 n ws frame) ∙ ne_eqb _ _ (λ q. e (low ∙ q)))
+
+      pub sharp_count : marks % 4294967296 ≡ 0 → ◌≡◌ {A = Option ℕ} (Some (length ws - marks / 4294967296)) (merged_count n ws)
+      sharp_count e = count_some (length ws - marks / 4294967296) (sharp_spaced n ws some ∙ sym (spaced_framed 1 n ws frame) ∙ eq-eqb _ _ (sym low ∙ e)) (omega (arith, high, merge_long ws))

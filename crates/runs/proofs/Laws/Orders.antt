@@ -1,5 +1,5 @@
 -- Laws of steady and sharp lists.
-use Prim.Native.Nat.{ℕ, zero, suc, ◌+◌, ◌≤◌, ◌<◌}
+use Prim.Native.Nat.{ℕ, zero, suc, ◌+◌, ◌-◌, ◌≤◌, ◌<◌}
 use mathlib.Core.Path.{◌≡◌, refl, ap, ◌∙◌}
 use mathlib.Core.Bool.{true, false}
 use mathlib.Core.List.{List, [], ◌∷◌}
@@ -9,7 +9,7 @@ use lib.ListN.{length, drop, get_or}
 use lib.Seq.{drop-cons}
 use Rattle.base.proofs.Bools.{and_true, and_both, false_true}
 use Rattle.runs.specs.Words.{offset}
-use Rattle.runs.specs.Colours.{next, end_at}
+use Rattle.runs.specs.Colours.{next, end_at, last_run}
 use Rattle.runs.specs.Orders.{rises, steady, climbs, sharp, most_vertices}
 use Rattle.runs.specs.Inside.Lists.{Steady, Sharp, Taken}
 
@@ -154,6 +154,9 @@ strict_few n (w ∷ ws) u =
     let a : offset w < next n ws = u 0 (omega arith) in
     let b : next n ws + length ws ≤ n = strict_few n ws (λ i l. u (suc i) (omega arith)) in
     omega arith
+
+pub last_cons : (w v : ℕ) (ws : List ℕ) → last_run (w ∷ v ∷ ws) ≡ last_run (v ∷ ws)
+last_cons w v ws = let e : suc (suc (length ws)) - 1 ≡ suc (suc (length ws) - 1) = omega arith in ap (λ (i : ℕ). get_or (w ∷ v ∷ ws) i 0) e
 
 pub starts_zero : (n : ℕ) (ws : List ℕ) → Steady n ws → 0 < length ws → next n ws ≡ 0
 starts_zero n ws s some = run_begins n ws 0 some ∙ s.first

@@ -12,7 +12,8 @@ use Rattle.runs.specs.Words.{pack}
 use Rattle.runs.specs.Colours.{colours}
 use Rattle.runs.specs.Orders.{rises, steady, climbs, sharp, list_into}
 use Rattle.runs.specs.Reverse.{reverse_runs, reverse_into, reverse_in_place}
-use Rattle.runs.specs.Append.{shifted, skip, appendix, append_runs, bad_counts, joinable, result_into, append_into}
+use Rattle.runs.specs.Merge.{merge, merge_behind, merge_into}
+use Rattle.runs.specs.Append.{shifted, appendix, append_runs, bad_counts, joinable, result_into, append_into}
 use Rattle.runs.specs.Rotate.{changes, firsts, runs_at, merged, rotate_runs, rotate_into}
 use Rattle.runs.specs.Bytes.{le_bytes, le_value, run_bytes, words, after_count, read_runs, write_runs, given_in, read_runs_into, write_rotated}
 
@@ -23,6 +24,10 @@ first = pack 0 5 ∷ pack 4 7 ∷ []
 -- (0,a)
 abbrev one : List ℕ
 one = pack 0 5 ∷ []
+
+-- (0,a)(1,a)(2,b)(3,b)
+abbrev fine : List ℕ
+fine = pack 0 5 ∷ pack 1 5 ∷ pack 2 7 ∷ pack 3 7 ∷ []
 
 -- an output with room for three runs
 abbrev three : List ℕ
@@ -56,6 +61,19 @@ asked =
     ∷ append_into (pack 0 5 ∷ pack 3 7 ∷ []) 2 3 one 2 false
     ∷ append_into grown 1 3 [] 5 false
     ∷ append_into (pack 0 5 ∷ []) 1 3 (pack 0 7 ∷ []) 5 false
+    -- append (request F-9): the output's own runs stay, equal ones too; the smallest pieces that the reference doesn't merge; 3 by the merged runs, and with one place more; two records of one worker
+    ∷ append_into (pack 0 5 ∷ pack 1 7 ∷ 2 ∷ []) 2 2 (pack 0 5 ∷ []) 1 false
+    ∷ append_into (pack 0 5 ∷ pack 1 5 ∷ 2 ∷ []) 2 2 (pack 0 5 ∷ pack 1 7 ∷ []) 2 false
+    ∷ append_into one 1 1 (pack 0 5 ∷ pack 1 5 ∷ []) 2 false
+    ∷ append_into (pack 0 5 ∷ 2 ∷ []) 1 1 (pack 0 7 ∷ pack 1 7 ∷ []) 2 true
+    ∷ append_into (pack 0 5 ∷ []) 1 1 (pack 0 7 ∷ pack 1 7 ∷ []) 2 false
+    ∷ append_into (pack 0 2 ∷ 2 ∷ []) 1 1 (pack 0 2 ∷ pack 1 258 ∷ []) 2 false
+    -- merge: 7 before 6, that before 3; either way
+    ∷ merge_into [] 16777216 false []
+    ∷ merge_into (pack 0 5 ∷ pack 0 7 ∷ []) 5 false []
+    ∷ merge_into fine 5 false one
+    ∷ merge_into fine 5 false three
+    ∷ merge_into fine 5 true three
     -- run bytes: cut counts and runs, a needless zero group, room for no run
     ∷ read_runs_into [] three
     ∷ read_runs_into (1 ∷ 4 ∷ 0 ∷ []) three
@@ -86,6 +104,17 @@ answered =
     ∷ (refused 6, pack 0 5 ∷ pack 3 7 ∷ [])
     ∷ (refused 6, grown)
     ∷ (refused 3, pack 0 5 ∷ [])
+    ∷ (done (3 ∷ 2 ∷ []), pack 0 5 ∷ pack 1 7 ∷ pack 1 5 ∷ [])
+    ∷ (done (3 ∷ 3 ∷ []), pack 0 5 ∷ pack 1 5 ∷ pack 2 7 ∷ [])
+    ∷ (done (1 ∷ 2 ∷ []), one)
+    ∷ (done (2 ∷ 2 ∷ []), pack 0 5 ∷ pack 0 7 ∷ [])
+    ∷ (refused 3, pack 0 5 ∷ [])
+    ∷ (done (2 ∷ 2 ∷ []), pack 0 2 ∷ pack 1 258 ∷ [])
+    ∷ (refused 7, [])
+    ∷ (refused 6, [])
+    ∷ (refused 3, one)
+    ∷ (done (2 ∷ []), pack 0 5 ∷ pack 2 7 ∷ 3 ∷ [])
+    ∷ (done (2 ∷ []), pack 0 7 ∷ pack 3 5 ∷ 3 ∷ [])
     ∷ (refused 4, three)
     ∷ (refused 4, three)
     ∷ (refused 5, three)
@@ -96,6 +125,6 @@ answered =
 
 pub readings : asked ≡ answered
 unfolding
-    ◌when◌else◌ over flat leb_in prefix_of read_leb read_prefix colours rises steady climbs sharp list_into reverse_runs reverse_in_place shifted skip appendix append_runs bad_counts joinable result_into append_into changes firsts runs_at merged rotate_runs
+    ◌when◌else◌ over flat leb_in prefix_of read_leb read_prefix colours rises steady climbs sharp list_into reverse_runs reverse_in_place merge merge_into shifted merge_behind appendix append_runs bad_counts joinable result_into append_into changes firsts runs_at merged rotate_runs
     le_bytes le_value run_bytes words after_count read_runs write_runs given_in write_rotated
 readings = refl

@@ -1,12 +1,11 @@
 -- Every word that an operation writes has its offset below 2^24 and keeps its 40-bit coordinate.
 use Prim.Native.Nat.{ℕ, zero, suc, ◌+◌, ◌-◌, ◌%◌, ◌^◌, ◌≤◌, ◌<◌}
-use mathlib.Core.Path.{◌≡◌, refl, sym, ap, subst}
+use mathlib.Core.Path.{◌≡◌, refl, sym, subst}
 use mathlib.Core.Bool.{Bool, true, false}
 use mathlib.Core.List.{List, [], ◌∷◌, ◌++◌}
 use native.Mathlib.Omega.{arith}
 use native.Mathlib.Decide.{dec_lt}
-use lib.ListN.{length, drop, get_or, replicate, length-drop, length-map, get_or-append, get_or-eq_default}
-use lib.Seq.{get_or-drop}
+use lib.ListN.{length, drop, get_or, replicate, length-map, get_or-append, get_or-eq_default}
 use lib.Dec.{eqb}
 use Rattle.base.proofs.All.{All, all_at, all_append, all_replicate}
 use Rattle.runs.specs.Words.{offset, coordinate, pack, AreWords}
@@ -14,13 +13,15 @@ use Rattle.runs.specs.Colours.{next, end_at, colours, last_coord}
 use Rattle.runs.specs.Orders.{most_vertices, sharp}
 use Rattle.runs.specs.Inside.Lists.{Steady, Sharp, Taken}
 use Rattle.runs.specs.Reverse.{reverse_runs, oriented}
-use Rattle.runs.specs.Append.{shifted, skip, appendix, append_runs}
-use Rattle.runs.specs.Rotate.{turn_left, unless, changes, firsts, runs_at, merged, rotate_runs}
+use Rattle.runs.specs.Merge.{merge_behind, unless}
+use Rattle.runs.specs.Append.{shifted, appendix, append_runs}
+use Rattle.runs.specs.Rotate.{turn_left, changes, firsts, runs_at, merged, rotate_runs}
 use Rattle.runs.proofs.Laws.Lists.{get_or_behind, all_turn}
 use Rattle.runs.proofs.Laws.Words.{pack_of, coordinate_small, pack_small}
-use Rattle.runs.proofs.Laws.Orders.{end_le, run_begins, sharp_yes, sharp_steady}
+use Rattle.runs.proofs.Laws.Orders.{end_le, run_begins, sharp_yes, sharp_steady, strict_le}
 use Rattle.runs.proofs.Laws.Colours.{length_colours, steady_long, steady_at}
 use Rattle.runs.proofs.Laws.Reverse.{reversed_at, length_reversed, oriented_sharp, oriented_steady}
+use Rattle.runs.proofs.Laws.Merge.{behind_strict}
 use Rattle.runs.proofs.Laws.Append.{shifted_at, length_shifted}
 use Rattle.runs.proofs.Laws.Cursor.{turn_long}
 
@@ -61,9 +62,6 @@ oriented_words false n ws h a = a
 pub shifted_packed : (k : ℕ) (ws : List ℕ) (i : ℕ) → AreWords ws → i < length ws → offset (get_or ws i 0) + k ≤ most_vertices → Packed (offset (get_or ws i 0) + k) (coordinate (get_or ws i 0)) (get_or (shifted k ws) i 0)
 shifted_packed k ws i a l h = record { word = shifted_at k ws i l; small = omega arith; narrow = narrow_at ws i a }
 
-words_drop : (k : ℕ) (ws : List ℕ) → AreWords ws → AreWords (drop k ws)
-words_drop k ws a i = subst (λ (x : ℕ). x < 2 ^ 64) (sym (get_or-drop k ws i 0)) (a (k + i))
-
 words_append : (xs ys : List ℕ) → AreWords xs → AreWords ys → AreWords (xs ++ ys)
 words_append xs ys a b i = go (dec_lt i (length xs))
   where
@@ -71,17 +69,29 @@ words_append xs ys a b i = go (dec_lt i (length xs))
     go (yes l) = subst (λ (x : ℕ). x < 2 ^ 64) (sym (get_or-append xs ys 0 i l)) (a i)
     go (no l) = subst (λ (x : ℕ). x < 2 ^ 64) (sym (get_or_behind xs ys i 0 (omega arith))) (b (i - length xs))
 
+words_cons : (w : ℕ) (ws : List ℕ) → w < 2 ^ 64 → AreWords ws → AreWords (w ∷ ws)
+words_cons w ws h a zero = h
+words_cons w ws h a (suc i) = a i
+
+words_merge : (c : ℕ) (ws : List ℕ) → AreWords ws → AreWords (merge_behind c ws)
+unfolding merge_behind
+words_merge c [] a = a
+words_merge c (w ∷ ws) a = go (eqb c (coordinate w)) (words_merge (coordinate w) ws (λ i. a (suc i)))
+  where
+    go : (t : Bool) → AreWords (merge_behind (coordinate w) ws) → AreWords (unless t w (merge_behind (coordinate w) ws))
+    go true m = m
+    go false m = words_cons w (merge_behind (coordinate w) ws) (a 0) m
+
 -- what append puts behind an output of a vertices, of a piece that is sharp for b
-pub appendix_packed : (a b c : ℕ) (os : List ℕ) (i : ℕ) → a + b - 1 ≤ most_vertices → Sharp b os → AreWords os → i < length (drop (skip c os) os)
-    → Packed (offset (get_or os (skip c os + i) 0) + (a - 1)) (coordinate (get_or os (skip c os + i) 0)) (get_or (appendix c a os) i 0)
+pub appendix_packed : (a b c : ℕ) (os : List ℕ) (i : ℕ) → a + b - 1 ≤ most_vertices → Sharp b os → AreWords os → i < length (merge_behind c os)
+    → Packed (offset (get_or (merge_behind c os) i 0) + (a - 1)) (coordinate (get_or (merge_behind c os) i 0)) (get_or (appendix c a os) i 0)
 unfolding appendix
 appendix_packed a b c os i h s w l =
-    let e : get_or (drop (skip c os) os) i 0 ≡ get_or os (skip c os + i) 0 = get_or-drop (skip c os) os i 0 in
-    let m : skip c os + i < length os = omega (arith, length-drop (skip c os) os) in
-    let o : offset (get_or os (skip c os + i) 0) < end_at b os (skip c os + i) = s.up (skip c os + i) m in
-    let n : end_at b os (skip c os + i) ≤ b = end_le b os (skip c os + i) (sharp_steady b os s).up in
-    let p = shifted_packed (a - 1) (drop (skip c os) os) i (words_drop (skip c os) os w) l (omega (arith, ap offset e)) in
-    subst (λ (x : ℕ). Packed (offset x + (a - 1)) (coordinate x) (get_or (shifted (a - 1) (drop (skip c os) os)) i 0)) e p
+    let m : List ℕ = merge_behind c os in
+    let u = (behind_strict b c os s.up).1 in
+    let o : offset (get_or m i 0) < end_at b m i = u i l in
+    let n : end_at b m i ≤ b = end_le b m i (strict_le b m u) in
+    shifted_packed (a - 1) m i (words_merge c os w) l (omega arith)
 
 pub appended_words : (out : List ℕ) (a : ℕ) (piece : List ℕ) (b : ℕ) (r : Bool) → 0 < a → a + b - 1 ≤ most_vertices → Sharp b piece → AreWords out → AreWords piece → AreWords (append_runs out a piece b r)
 unfolding append_runs appendix
@@ -91,8 +101,8 @@ appended_words out a piece b r q h s u v =
     let t = oriented_sharp r b piece (omega arith) s in
     words_append out (appendix c a os) u (words_of (appendix c a os) (λ i l. packed_word _ _ _ (appendix_packed a b c os i h t (oriented_words r b piece (omega arith) v) (subst (λ (x : ℕ). i < x) (long c os) l))))
   where
-    long : (c : ℕ) (os : List ℕ) → length (appendix c a os) ≡ length (drop (skip c os) os)
-    long c os = length_shifted (a - 1) (drop (skip c os) os)
+    long : (c : ℕ) (os : List ℕ) → length (appendix c a os) ≡ length (merge_behind c os)
+    long c os = length_shifted (a - 1) (merge_behind c os)
 
 -- ---- rotate
 

@@ -15,7 +15,8 @@ use Rattle.codec.specs.Flat.{flat}
 use Rattle.codec.specs.Prefix.{leb_in, prefix_of, read_leb, read_prefix}
 use Rattle.codec.specs.Records.{record_of, read_record, bad_colors, same}
 use Rattle.codec.specs.Sets.{map_bits, ids_of, absent, gap_bits, regime, set_bits, encode_set, read_gaps, read_map, read_set, padding, decode_set, within}
-use Rattle.runs.specs.Append.{shifted, skip, appendix}
+use Rattle.runs.specs.Append.{shifted, appendix}
+use Rattle.runs.specs.Merge.{merge, merge_behind}
 use Rattle.runs.specs.Bytes.{le_bytes, le_value, run_bytes, words, after_count, read_runs, sharp_colour_in, sharp_colour}
 use Rattle.runs.specs.Colours.{colours, colour_from}
 use Rattle.runs.specs.Orders.{climbs, sharp}
@@ -29,7 +30,7 @@ use Rattle.store.specs.Demand.{LentCall, updating, showing, Seen, seen, sent, ou
 use Rattle.store.specs.Filed.{unnamed, record_start, set_in, set_from, set_at, reads_as}
 use Rattle.store.specs.Join.{alike, same_join, open_count, open_at, open_new, all_named, open_test, open_space, join_test, join_filed_at, join_cell, join_step}
 use Rattle.store.specs.Numbered.{sequence_of, repeated, tested, by_sequence, numbered, by_gate}
-use Rattle.store.specs.Plain.{Way, line, cycle, add, join, close, plain_fresh, is_empty, ascends_from, ascends, all_below, is_set, are_sharp, name_sets, equal, inner_starts, expanded, turned_round, piece_of, joined, new_count, differs, without_last, turned_by, filed, acyclic, bytes_of, add_tests, join_tests, close_tests, tests, equal_ways, both_or_neither, equal_updates, again, verdict, close_effect, effect, accepted, plain_update, coord_at, ids_at, no_vertex, plain_show, plain_step, plain_run}
+use Rattle.store.specs.Plain.{Way, line, cycle, add, join, close, plain_fresh, is_empty, ascends_from, ascends, all_below, is_set, are_sharp, name_sets, equal, inner_starts, expanded, turned_round, like_before, neighbours_merged, piece_of, joined, new_count, differs, without_last, turned_by, filed, acyclic, bytes_of, add_tests, join_tests, close_tests, tests, equal_ways, both_or_neither, equal_updates, again, verdict, close_effect, effect, accepted, plain_update, coord_at, ids_at, no_vertex, plain_show, plain_step, plain_run}
 use Rattle.store.specs.Show.{no_place, coord_from, set_by, vertex_set, shown_by, show_step}
 use Rattle.store.specs.Start.{bad_limits, too_long, bad_cell_lengths, bad_shared_lengths, bad_lengths, fresh_cell, fresh_shared, fresh, start_step}
 use Rattle.store.specs.State.{Bufs, bufs, lengths_of, extent, put, after, with_unitig, with_parts}
@@ -232,13 +233,61 @@ left_open =
     bufs (0x02 ∷ 0x62 ∷ 0x01 ∷ 0x02 ∷ 0x1A ∷ 0x08 ∷ []) (0 ∷ 3 ∷ 6 ∷ []) (pack 0 2 ∷ pack 3 258 ∷ []) turned
     (2 ∷ 0 ∷ 0 ∷ 0 ∷ 2 ∷ 0 ∷ 0 ∷ 0 ∷ 0 ∷ 3 ∷ 0 ∷ 0 ∷ 2 ∷ 1 ∷ 0 ∷ 0 ∷ 0 ∷ []) (0 ∷ 4 ∷ [])
 
--- ---- a cycle, which walks back to its first vertex
+-- ---- runs cut finely
 
 abbrev shows_5 : ℕ → LentCall × Seen
 shows_5 v = (showing 0 v (8 ∷ 8 ∷ []), shows 1 (5 ∷ 8 ∷ []))
 
 abbrev shows_07 : ℕ → LentCall × Seen
 shows_07 v = (showing 0 v (8 ∷ 8 ∷ []), shows 2 (0 ∷ 7 ∷ []))
+
+-- (0,2)(1,2)(2,258)(3,258) of five vertices, (0,258)(1,258)(2,2)(3,2) of four
+abbrev fine : List ℕ
+fine = pack 0 2 ∷ pack 1 2 ∷ pack 2 258 ∷ pack 3 258 ∷ []
+
+abbrev finer : List ℕ
+finer = pack 0 258 ∷ pack 1 258 ∷ pack 2 2 ∷ pack 3 2 ∷ []
+
+-- two sets filed, over so much space for open runs and for a held piece
+abbrev cut : (opened held runs : ℕ) → List (LentCall × Seen) → Case
+cut o h r rows = over_room (room 6 3 o h r 2) ((adds 1 (5 ∷ []), told 2) ∷ (adds 2 (0 ∷ 7 ∷ []), told 258) ∷ rows)
+
+-- merged inside a piece and at the junction: open runs for the merged runs, the held piece and a repeat as sent, run bytes for three runs
+abbrev merging : Case
+merging =
+    cut 3 4 25
+    (
+    (joins 3 5 false fine, told 5)
+    ∷ (joins 3 5 false (pack 0 2 ∷ pack 2 258 ∷ []), refused 11)
+    ∷ (joins 3 5 false fine, told 5)
+    ∷ (joins 4 4 false fine, refused 8)
+    ∷ (joins 4 4 false finer, told 8)
+    ∷ (joins 5 3 false (pack 0 2 ∷ pack 1 2 ∷ []), told 10)
+    ∷ (closes 6 line, told 0)
+    ∷ shows_5 1
+    ∷ shows_07 2
+    ∷ shows_07 5
+    ∷ shows_5 6
+    ∷ shows_5 9
+    ∷ (showing 0 10 [], unshown 14 [])
+    ∷ []
+    )
+
+abbrev left_merged : Bufs
+left_merged =
+    bufs (0x02 ∷ 0x62 ∷ 0x01 ∷ 0x02 ∷ 0x1A ∷ 0x08 ∷ []) (0 ∷ 3 ∷ 6 ∷ []) (pack 0 2 ∷ pack 2 258 ∷ pack 6 2 ∷ []) (pack 0 2 ∷ pack 1 2 ∷ pack 2 2 ∷ pack 3 2 ∷ [])
+    (3 ∷ 0 ∷ 0 ∷ 0 ∷ 2 ∷ 0 ∷ 0 ∷ 0 ∷ 0 ∷ 2 ∷ 0 ∷ 0 ∷ 2 ∷ 1 ∷ 0 ∷ 0 ∷ 0 ∷ 6 ∷ 0 ∷ 0 ∷ 2 ∷ 0 ∷ 0 ∷ 0 ∷ 0 ∷ []) (0 ∷ 10 ∷ [])
+
+-- the first piece from its other end
+abbrev merging_back : Case
+merging_back = cut 2 4 17 ((joins 3 5 true fine, told 5) ∷ (closes 4 line, told 0) ∷ shows_07 0 ∷ shows_07 2 ∷ shows_5 3 ∷ shows_5 4 ∷ [])
+
+abbrev left_back : Bufs
+left_back =
+    bufs (0x02 ∷ 0x62 ∷ 0x01 ∷ 0x02 ∷ 0x1A ∷ 0x08 ∷ []) (0 ∷ 3 ∷ 6 ∷ []) (pack 0 258 ∷ pack 3 2 ∷ []) fine
+    (2 ∷ 0 ∷ 0 ∷ 0 ∷ 2 ∷ 1 ∷ 0 ∷ 0 ∷ 0 ∷ 3 ∷ 0 ∷ 0 ∷ 2 ∷ 0 ∷ 0 ∷ 0 ∷ 0 ∷ []) (0 ∷ 5 ∷ [])
+
+-- ---- a cycle, which walks back to its first vertex
 
 -- the walk (0,2)(2,258)(4,2) of five vertices, sent in two pieces and closed with this pivot; a run file just long enough, and what its four vertices show
 abbrev round : (runs pivot : ℕ) → List (LentCall × Seen) → Case
@@ -301,6 +350,15 @@ cases =
     ∷ empty_alone 1
     ∷ empty_twice
     ∷ while_open
+    ∷ merging
+    ∷ merging_back
+    -- one place less for the open runs or for the held piece, of a first piece, either way, and of a later one
+    ∷ cut 1 4 17 ((joins 3 5 false fine, refused 3) ∷ (joins 3 5 true fine, refused 3) ∷ (joins 3 5 false (pack 0 2 ∷ pack 1 2 ∷ []), told 5) ∷ [])
+    ∷ cut 2 3 17 ((joins 3 5 false fine, refused 3) ∷ (joins 3 5 true fine, refused 3) ∷ [])
+    ∷ cut 2 4 25 ((joins 3 5 false fine, told 5) ∷ (joins 4 4 false finer, refused 3) ∷ (joins 4 4 false (pack 0 258 ∷ pack 1 258 ∷ []), told 8) ∷ [])
+    ∷ cut 3 3 25 ((joins 3 2 false (pack 0 2 ∷ pack 1 258 ∷ []), told 2) ∷ (joins 4 4 false finer, refused 3) ∷ [])
+    -- what is filed has the space of the merged runs
+    ∷ cut 2 4 16 ((joins 3 5 false fine, told 5) ∷ (closes 4 line, refused 3) ∷ [])
     ∷ round 17 0 round_0
     ∷ round 25 1 round_1
     ∷ round 17 4 round_0
@@ -676,6 +734,7 @@ pub record Cases : Type 0 where
   pub plain : map by_plain cases ≡ map told_by cases
   pub kept : left_over worked ≡ left
   pub open_kept : left_over while_open ≡ left_open
+  pub merged_kept : (left_over merging ≡ left_merged) × (left_over merging_back ≡ left_back)
   pub rounds_kept :
       (left_over (round 17 0 round_0) ≡ left_round_0)
       × (left_over (round 25 1 round_1) ≡ left_round_1)
@@ -696,12 +755,12 @@ pub computed : Cases
 unfolding
     ◌when◌else◌ any_of over low_bits value_of bits_of pack_bytes pack_bits high_in high_bit gamma delta read_zeros read_low read_gamma read_delta leb_in prefix_of
     read_leb read_prefix map_bits ids_of absent gap_bits regime set_bits encode_set read_gaps read_map read_set padding decode_set within flat record_of read_record
-    bad_colors same colours colour_from climbs sharp reverse_runs shifted skip appendix changes firsts runs_at merged rotate_runs le_bytes le_value run_bytes
+    bad_colors same colours colour_from climbs sharp reverse_runs merge merge_behind shifted appendix changes firsts runs_at merged rotate_runs le_bytes le_value run_bytes
     words after_count read_runs sharp_colour_in sharp_colour no_space add_test same_add add_filed add_cell add_step altered_buffer bad_vertices
     bad_current altered_cell altered_shared altered same_way same_close filed_count filed_runs filed_bytes count_of acyclic_runs close_open no_close_space close_test close_filed_of close_cell
     close_step sent out_of as_seen all_seen way_of store_update store_step store_run unnamed record_start set_in set_from set_at reads_as alike same_join open_count
     open_at open_new all_named open_test open_space join_test join_filed_at join_cell join_step sequence_of repeated tested by_sequence numbered by_gate plain_fresh is_empty
-    ascends_from ascends all_below is_set are_sharp name_sets equal inner_starts expanded turned_round piece_of joined new_count differs without_last turned_by filed acyclic bytes_of
+    ascends_from ascends all_below is_set are_sharp name_sets equal inner_starts expanded turned_round like_before neighbours_merged piece_of joined new_count differs without_last turned_by filed acyclic bytes_of
     add_tests join_tests close_tests tests equal_ways both_or_neither equal_updates again verdict close_effect effect accepted plain_update coord_at ids_at
     no_vertex plain_show plain_step plain_run no_place coord_from set_by vertex_set shown_by show_step bad_limits too_long bad_cell_lengths bad_shared_lengths
     bad_lengths fresh_cell fresh_shared fresh start_step put after with_unitig
@@ -711,6 +770,7 @@ computed =
       plain = refl;
       kept = refl;
       open_kept = refl;
+      merged_kept = (refl, refl);
       rounds_kept = (refl, refl, refl, refl);
       empty_kept = (refl, refl, refl);
       started = refl;

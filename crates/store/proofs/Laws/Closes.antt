@@ -30,7 +30,7 @@ use Rattle.store.proofs.Laws.Puts.{put_length}
 use Rattle.store.proofs.Laws.Rep.{CellRep, Good, OpenRep, Rep, SharedRep, unitig_runs}
 use Rattle.store.proofs.Laws.Rep as rep
 use Rattle.store.proofs.Laws.Table.{closed_one}
-use Rattle.store.proofs.Laws.Unitigs.{but_last, first_of, last_of, shorter_told, turn_good}
+use Rattle.store.proofs.Laws.Unitigs.{but_last, first_of, last_of, runs_sharp, shorter_good, shorter_long, turn_good}
 
 -- ---- the unitig filed
 
@@ -45,12 +45,12 @@ unfolding acyclic filed filed_count filed_runs merged rotate_runs turned_by way_
 files line u g e = record { good = g; count = refl; runs = refl }
 files (cycle pivot) u g e =
     let two : 2 ≤ length u.coords = ltb-false _ _ (or_none _ _ e).0 in
-    let k = shorter_told u g two in
-    let t = turn_good pivot (without_last u) k.good in
+    let k = shorter_long u g in
+    let t = turn_good pivot (without_last u) (shorter_good u g two) in
     record {
       good = t.0;
-      count = sym (t.1 ∙ k.long);
-      runs = ap₂ (λ (m : ℕ) (cs : List ℕ). merged (turn_left (pivot % m) cs)) (sym k.long) (but_last u g);
+      count = sym (t.1 ∙ k);
+      runs = ap₂ (λ (m : ℕ) (cs : List ℕ). merged (turn_left (pivot % m) cs)) (sym k) (but_last u g);
     }
 
 -- ---- tests: of the open unitig, and of the shared part's space
@@ -76,7 +76,7 @@ module _ {names : ℕ → Type 0} {us : List Unitig} {l : SharedLengths} {s : Sh
   unfolding as_verdict close_tests close_open filed_bytes ◌when◌else◌ bytes_of
   open_tests rep.closed = refl
   open_tests (rep.opened {u} {n = m} q g t) =
-      let a : sharp m old ≡ true = rw (t, q) g.is_sharp in
+      let a : sharp m old ≡ true = rw (t, q) (runs_sharp u g) in
       let k : acyclic_runs (way_of way) m old ≡ acyclic way u = rw (t, q) (acyclic_agrees u g) in
       rw a
       (refuse_both Acyclic _ _ k

@@ -39,7 +39,7 @@ use Rattle.store.proofs.Laws.Rep as rep
 use Rattle.store.proofs.Laws.Shows.{count_is, good_here, named_narrow, runs_are}
 use Rattle.store.proofs.Laws.Trace.{step_ok}
 use Rattle.store.proofs.Laws.Accepted.{close_sets}
-use Rattle.store.proofs.Laws.Unitigs.{shorter_told}
+use Rattle.store.proofs.Laws.Unitigs.{runs_sharp, runs_start, runs_tell, shorter_good, shorter_long}
 use Rattle.store.proofs.Laws.Agree.{sharp_agrees}
 
 open_good : {names : ℕ → Type 0} {used : ℕ} {c : Option Unitig} {o : Current} {runs : List ℕ} → OpenRep names c o used runs → (u : Unitig) → c ≡ some u → Good names u
@@ -170,7 +170,7 @@ module _ {p : Plain} {s : Store} {b : Bufs} (r : Rep p s b) (u : Unitig) (pivot 
 
     turned : (v : ℕ) → v < m → coord_at p' place v ≡ get_or u.coords ((v + pivot) % m) 0
     unfolding coord_at
-    turned v h = ap (λ (w : Unitig). get_or w.coords v 0) here_is ∙ cycle_coords u pivot v (shorter_told u (open_good r.cell.opened u is) two).long h
+    turned v h = ap (λ (w : Unitig). get_or w.coords v 0) here_is ∙ cycle_coords u pivot v (shorter_long u (open_good r.cell.opened u is)) h
 
     no_more : (vertex : ℕ) (out : List ℕ) → m ≤ vertex → (store_step s' b' (showing place vertex out)).0 ≡ seen (refused 14) out
     unfolding plain_step plain_show no_vertex sent out_of as_seen ◌when◌else◌
@@ -191,7 +191,7 @@ module _ {p : Plain} {s : Store} {b : Bufs} (r : Rep p s b) (u : Unitig) (pivot 
     runs_filed = runs_are narrow rep_after.shared place one_more ∙ ap₂ (λ (ws : List ℕ) (us : List Unitig). found ws (flat bytes_of us)) merged_here last_here
 
     each_run : sharp m (merged (coords_of p' place)) ≡ true
-    each_run = ap₂ sharp (sym (ap (λ (v : Unitig). length v.coords) here_is ∙ long)) (sym merged_here) ∙ (good_here narrow rep_after.shared place one_more).is_sharp
+    each_run = ap₂ sharp (sym (ap (λ (v : Unitig). length v.coords) here_is ∙ long)) (sym merged_here) ∙ runs_sharp (get_or p'.closed place no_unitig) (good_here narrow rep_after.shared place one_more)
 
     module _ (v : ℕ) (h : v < m) where
       abbrev ids : List ℕ
@@ -240,11 +240,12 @@ all_but_last u = refl
 
 dropped : {names : ℕ → Type 0} (u : Unitig) → Good names u → 2 ≤ length u.coords → Dropped u
 dropped u g two =
-    let k = shorter_told u g two in
     let w : Unitig = without_last u in
+    let k = shorter_good u g two in
+    let l = shorter_long u g in
     record {
-      starts = ap₂ are_sharp (sym k.long) (sym k.good.offsets) ∙ sharp_agrees (length w.coords) (unitig_runs w) ∙ k.good.is_sharp;
-      runs = ap (λ (m : ℕ). colours m (unitig_runs w)) (sym k.long) ∙ k.good.tell ∙ all_but_last u;
+      starts = ap₂ are_sharp (sym l) (sym (runs_start w k)) ∙ sharp_agrees (length w.coords) (unitig_runs w) ∙ runs_sharp w k;
+      runs = ap (λ (m : ℕ). colours m (unitig_runs w)) (sym l) ∙ runs_tell w k ∙ all_but_last u;
     }
 
 module _ {p : Plain} {s : Store} {b : Bufs} (r : Rep p s b) where

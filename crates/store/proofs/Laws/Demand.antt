@@ -3,7 +3,7 @@ use Prim.Native.Nat.{ℕ, ◌+◌, ◌<◌}
 use mathlib.Core.Path.{◌≡◌, refl, sym, ap, ◌∙◌}
 use mathlib.Core.Bool.{Bool, true, false, ◌||◌}
 use mathlib.Core.List.{List, [], ◌∷◌, ◌++◌, map}
-use mathlib.Core.Option.{none, some}
+use mathlib.Core.Option.{some}
 use native.Mathlib.Omega.{arith}
 use native.Mathlib.Nat.{zero-add}
 use lib.ListN.{length, get_or, take, length-set, length-append, get_or-append}
@@ -21,7 +21,8 @@ use Rattle.codec.specs.Records.{bad_colors, file_of}
 use Rattle.codec.proofs.Promise.{IsSet, promise}
 use Rattle.runs.specs.Words.{coordinate_of, place_of}
 use Rattle.runs.proofs.Laws.Words.{coordinate_of_lem}
-use Rattle.store.specs.Demand.{Demand3, LentCall, LinesSent, RecordsKept, Seen, ShowsSent, UnitigsKept, accepted_from, all_seen, as_seen, line_runs, out_of, record_file, seen, sent, set_for, sets_in, showing, store_run, table_of}
+use Rattle.runs.specs.Bytes.{found}
+use Rattle.store.specs.Demand.{Demand3, LentCall, RecordsKept, RunsMerged, Seen, ShowsSent, UnitigsKept, accepted_from, all_seen, as_seen, out_of, record_file, seen, sent, set_for, sets_in, showing, store_run, table_of}
 use Rattle.store.specs.Once.{Item, item_call, update_of, updates_from}
 use Rattle.store.specs.Plain.{Call, Plain, PlainCell, SharedLengths, Unitig, Update, Verdict, accept, accepted, coord_at, ids_at, no_unitig, no_vertex, plain_fresh, plain_run, plain_show, plain_step, plain_update, refusal, refuse, repeat, show, shown, update, verdict}
 use Rattle.store.specs.Start.{bad_cell_lengths, bad_lengths, bad_limits, bad_shared_lengths, fresh, fresh_cell, fresh_shared, no_store, start_step, too_long, zeroed}
@@ -30,11 +31,11 @@ use Rattle.store.specs.declared.state.Cell.{Cell}
 use Rattle.store.specs.declared.state.Shared.{Shared}
 use Rattle.store.specs.declared.state.Store.{Store}
 use Rattle.store.proofs.Laws.Accepted.{acc, first_run, once_run, sets_run}
-use Rattle.store.proofs.Laws.Lines.{lined_run, starts_of}
+use Rattle.store.proofs.Laws.Totals.{open_merged, run_total}
 use Rattle.store.proofs.Laws.Rep.{CellRep, Rep, SharedRep, Size, unitig_runs}
-use Rattle.store.proofs.Laws.Shows.{good_here, named_narrow, runs_are}
+use Rattle.store.proofs.Laws.Shows.{good_here, merged_are, named_narrow}
 use Rattle.store.proofs.Laws.Trace.{Ran, run_ok}
-use Rattle.store.proofs.Laws.Unitigs.{name_of, runs_long}
+use Rattle.store.proofs.Laws.Unitigs.{name_of, runs_merged}
 use Rattle.store.proofs.Laws.Rep as rep
 
 -- ---- an accepted start
@@ -276,20 +277,12 @@ module _ (N W : ℕ) (b : Bufs) (x : bad_limits N W ≡ false) (y : bad_lengths 
           ap (λ (x : Seen). x.out) at ∙ d.left,
         )
 
-    lines : LinesSent (accepted_from 0 calls (left calls).0) (left calls).1.shared (left calls).2.shared
-    unfolding plain_fresh starts_of
-    lines k count e =
+    merged : RunsMerged (plain calls).closed (left calls).1.shared (left calls).2.shared
+    merged k h =
         let r = (runs_agree calls).rep in
-        let d = lined_run (fresh_ok N W b x y) calls in
-        let q : (plain calls).closed ≡ d.more = d.are in
-        let h = d.counts k count (ap (λ (us : List (ℕ × Update)). get_or (line_runs none us) k none) (sym (accepted_are calls)) ∙ e) in
-        let l : k < length (plain calls).closed = omega (arith, h.0, ap length q) in
-        let u : Unitig = get_or (plain calls).closed k no_unitig in (
-          unitig_runs u,
-          _,
-          runs_are (named_narrow r.cell) r.shared k l,
-          runs_long u ∙ ap (λ (us : List Unitig). length (get_or us k no_unitig).starts) q ∙ h.1,
-        )
+        let q = named_narrow r.cell in
+        let u : Unitig = get_or (plain calls).closed k no_unitig in
+        (_, merged_are q r.shared k h, run_total u (good_here q r.shared k h))
 
     pub demand_fresh : Demand3 N W (lengths_of b) calls (left calls)
     demand_fresh =
@@ -299,5 +292,6 @@ module _ (N W : ℕ) (b : Bufs) (x : bad_limits N W ≡ false) (y : bad_lengths 
           shows = shows;
           records = rw (colors_are, sets_are) at (records_kept r.limits r.cell);
           unitigs = unitigs_kept r.shared;
-          lines = lines;
+          opened = open_merged r.cell.opened r.cell.open_room;
+          merged = merged;
         }

@@ -5,11 +5,12 @@ use mathlib.Core.Bool.{Bool, true, false, not, ◌&&◌, ◌||◌}
 use mathlib.Core.List.{List, [], ◌∷◌, ◌++◌}
 use native.Mathlib.Omega.{arith}
 use native.Mathlib.Nat.{zero-add}
-use lib.ListN.{length, take, drop, length-append, length-drop}
+use lib.ListN.{length, take, drop, length-append}
 use lib.Seq.{length-take-le}
 use lib.Dec.{ltb, leb, eqb}
-use borrow.Author.Tests.{lt-ltb, le-ltb, ne_eqb, ltb-false, eqb-false, leb-false, leb-true, not-false}
+use borrow.Author.Tests.{eq-eqb, lt-ltb, le-ltb, ne_eqb, ltb-false, eqb-false, leb-false, leb-true, not-false}
 use Rattle.std.proofs.Common.{Option, Result, Ok, Err, Some, None, IsOk}
+use Rattle.std.specs.Int.{from_bool}
 use Rattle.std.specs.Result.{result_transpose}
 use Rattle.std.specs.Cmp.Lexicographic.{pointwise}
 use Rattle.std.specs.List.{list_all}
@@ -21,13 +22,16 @@ use Rattle.base.proofs.Bools.{or_none}
 use Rattle.base.proofs.Parts.{over_behind}
 use Rattle.base.proofs.Tests.{when_no}
 use Rattle.codec.specs.Records.{same}
-use Rattle.runs.specs.Append.{append_into, append_runs, appendix, bad_counts, of_appended, result_into, skip}
+use Rattle.runs.specs.Append.{append_into, append_runs, appendix, bad_counts, of_appended, result_into}
+use Rattle.runs.specs.Merge.{merge, merge_behind, merge_into}
 use Rattle.runs.specs.Colours.{first_coord, last_coord}
-use Rattle.runs.specs.Orders.{list_into, sharp}
+use Rattle.runs.specs.Orders.{list_into, most_vertices, sharp}
 use Rattle.runs.specs.Reverse.{orient_into, oriented}
 use Rattle.runs.specs.Words.{coordinate, place_of, worker_of}
 use Rattle.runs.specs.declared.append.Appended.{Appended}
-use Rattle.runs.proofs.Laws.Append.{length_shifted, skip_yes}
+use Rattle.runs.specs.Inside.Pieces.{drops_first}
+use Rattle.runs.proofs.Laws.Append.{length_shifted}
+use Rattle.runs.proofs.Laws.Merge.{behind_drops, merge_oriented_long}
 use Rattle.runs.proofs.Laws.Joints.{sharp_joinable}
 use Rattle.runs.proofs.Laws.Orders.{sharp_yes, steady_sharp}
 use Rattle.runs.proofs.Laws.Reverse.{oriented_long}
@@ -77,11 +81,20 @@ named_all W sets (r ∷ rs) = ap (λ (t : Bool). not (unnamed W sets (coordinate
 
 -- ---- 7, 5, 8, 3
 
--- a piece that meets the open unitig loses its first run
-pub new_runs : (m : ℕ) (old op : List ℕ) → last_coord old ≡ first_coord op → length (open_new (Open m) old op) ≡ length op - 1
+-- the first piece's runs: merged
+pub new_first : (n : ℕ) (back : Bool) (old piece : List ℕ) (merged : ℕ) → n ≤ most_vertices → merged ≡ length (merge piece) → length (open_new Nothing old (oriented back n piece)) ≡ merged
+unfolding open_new
+new_first n back old piece merged few e = merge_oriented_long back n piece (omega arith) ∙ sym e
+
+-- one that meets the open unitig loses its first run
+pub new_behind : (m n : ℕ) (back : Bool) (old piece : List ℕ) (merged : ℕ) → n ≤ most_vertices → 0 < length piece → merged ≡ length (merge piece) → last_coord old ≡ first_coord (oriented back n piece)
+    → length (open_new (Open m) old (oriented back n piece)) ≡ merged - 1
 unfolding open_new appendix
-new_runs m old op e =
-    length_shifted (m - 1) (drop (skip (last_coord old) op) op) ∙ ap (λ (k : ℕ). length (drop k op)) (skip_yes (last_coord old) op e) ∙ length-drop 1 op
+new_behind m n back old piece merged few some e meet =
+    let os : List ℕ = oriented back n piece in
+    let d = behind_drops (last_coord old) os (omega (arith, oriented_long back n piece)) in
+    let t : from_bool (drops_first (last_coord old) os) ≡ 1 = ap from_bool (eq-eqb (last_coord old) (first_coord os) meet) in
+    length_shifted (m - 1) (merge_behind (last_coord old) os) ∙ omega (arith, d, t, e, merge_oriented_long back n piece (omega arith))
 
 pub some_runs : (r : Bool) (n : ℕ) (piece : List ℕ) → r ≡ sharp n piece → not r ≡ false → 0 < length piece
 some_runs r n piece e h = (sharp_yes n piece (sym e ∙ not-false r h)).some
@@ -153,16 +166,16 @@ module _ (c : Cell) (i n : ℕ) (back : Bool) (piece opened held : List ℕ) (fi
 
 -- ---- the open runs are written
 
-room_first : (c : Current) (used : ℕ) (old op : List ℕ) (len : ℕ) → c ≡ Nothing → open_at c used + length (open_new c old op) ≤ len → length op ≤ len
+room_first : (c : Current) (used : ℕ) (old op : List ℕ) (len : ℕ) → c ≡ Nothing → open_at c used + length (open_new c old op) ≤ len → length (merge op) ≤ len
 unfolding open_at open_new
-room_first c used old op len e r = let r' : 0 + length op ≤ len = rw e at r in omega arith
+room_first c used old op len e r = let r' : 0 + length (merge op) ≤ len = rw e at r in omega arith
 
 abbrev counted : ℕ → List ℕ → ℕ × List ℕ
 counted k l = (k, l)
 
-first_case : (c : Current) (used : ℕ) (old op opened : List ℕ) → c ≡ Nothing → ◌≡◌ {A = ℕ × List ℕ} (open_at c used + length (open_new c old op), put (open_at c used) (open_new c old op) opened) (length op, over op opened)
+first_case : (c : Current) (used : ℕ) (old op opened : List ℕ) → c ≡ Nothing → ◌≡◌ {A = ℕ × List ℕ} (open_at c used + length (open_new c old op), put (open_at c used) (open_new c old op) opened) (length (merge op), over (merge op) opened)
 unfolding open_at open_new put
-first_case c used old op opened e = rw e (ap (λ (k : ℕ). counted k (over op opened)) (zero-add (length op)))
+first_case c used old op opened e = rw e (ap (λ (k : ℕ). counted k (over (merge op) opened)) (zero-add (length (merge op))))
 
 told_appended : (w : Result Appended Refusal) (k m : ℕ) → of_appended w ≡ done (k ∷ m ∷ []) → w ≡ Ok (record { runs = k; vertices = m })
 told_appended (Ok a) k m e =
@@ -192,14 +205,15 @@ module _ (c : Cell) (n : ℕ) (back : Bool) (piece opened : List ℕ) (a : OpenR
       let k : length (oriented r n piece) ≤ length out = omega (arith, oriented_long r n piece) in
       rw (le-ltb _ _ few, steady_sharp n piece a.is_sharp, le-ltb _ _ k)
 
-  module _ (w : Result ℕ Refusal) (out : List ℕ) (e : c.current ≡ Nothing) (q : ◌≡◌ {A = Answer × List ℕ} (of_written w, out) (orient_into piece n back opened)) where
-    first_said : ◌≡◌ {A = Answer × List ℕ} (of_written w, out) (done (length (oriented back n piece) ∷ []), over (oriented back n piece) opened)
-    first_said =
-        let r : length (oriented back n piece) ≤ length opened = room_first c.current c.opened.used old (oriented back n piece) (length opened) e a.room in
-        let l : length piece ≤ length opened = omega (arith, oriented_long back n piece) in
-        q ∙ oriented_into back opened (few_first e) l
+  merged_into : n ≤ 16777215 → length (merge (oriented back n piece)) ≤ length opened → merge_into piece n back opened ≡ (done (length (merge (oriented back n piece)) ∷ []), over (merge (oriented back n piece)) opened)
+  unfolding merge_into ◌when◌else◌
+  merged_into few l = rw (le-ltb _ _ few, a.is_sharp, le-ltb _ _ l) refl
 
-    first_told : w ≡ Ok (length (oriented back n piece))
+  module _ (w : Result ℕ Refusal) (out : List ℕ) (e : c.current ≡ Nothing) (q : ◌≡◌ {A = Answer × List ℕ} (of_written w, out) (merge_into piece n back opened)) where
+    first_said : ◌≡◌ {A = Answer × List ℕ} (of_written w, out) (done (length (merge (oriented back n piece)) ∷ []), over (merge (oriented back n piece)) opened)
+    first_said = q ∙ merged_into (few_first e) (room_first c.current c.opened.used old (oriented back n piece) (length opened) e a.room)
+
+    first_told : w ≡ Ok (length (merge (oriented back n piece)))
     first_told = told_written w _ (ap (λ (y : Answer × List ℕ). y.0) first_said)
 
     pub first_ok : IsOk w
@@ -207,8 +221,8 @@ module _ (c : Cell) (n : ℕ) (back : Bool) (piece opened : List ℕ) (a : OpenR
 
     pub first_put : (k : ℕ) → w ≡ Ok k → ◌≡◌ {A = ℕ × List ℕ} (k, out) (open_after c n back piece opened)
     first_put k h =
-        let x : ◌≡◌ {A = Result ℕ Refusal} (Ok k) (Ok (length (oriented back n piece))) = sym h ∙ first_told in
-        let z : k ≡ length (oriented back n piece) = cc in
+        let x : ◌≡◌ {A = Result ℕ Refusal} (Ok k) (Ok (length (merge (oriented back n piece)))) = sym h ∙ first_told in
+        let z : k ≡ length (merge (oriented back n piece)) = cc in
         ap₂ counted z (ap (λ (y : Answer × List ℕ). y.1) first_said) ∙ sym (first_case c.current c.opened.used old (oriented back n piece) opened e)
 
   module _ (m : ℕ) (e : c.current ≡ Open m) where
@@ -252,7 +266,7 @@ module _ (c : Cell) (n : ℕ) (back : Bool) (piece opened : List ℕ) (a : OpenR
 
 -- ---- with the held piece and the state
 
-few_piece : (c : Current) (n : ℕ) → bad_current c ≡ false → open_count c n ≤ 16777215 → n ≤ 16777215
+pub few_piece : (c : Current) (n : ℕ) → bad_current c ≡ false → open_count c n ≤ 16777215 → n ≤ 16777215
 unfolding bad_current bad_vertices open_count
 few_piece Nothing n b h = h
 few_piece (Open m) n b h =

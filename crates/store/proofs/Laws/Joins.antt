@@ -17,6 +17,7 @@ use Rattle.base.proofs.Bools.{or_none}
 use Rattle.base.proofs.Parts.{length_over}
 use Rattle.runs.specs.Append.{appendix}
 use Rattle.runs.specs.Colours.{first_coord, last_coord, starts}
+use Rattle.runs.specs.Merge.{merge}
 use Rattle.runs.specs.Orders.{sharp}
 use Rattle.runs.specs.Reverse.{oriented}
 use Rattle.runs.specs.Words.{coordinate}
@@ -33,7 +34,7 @@ use Rattle.store.proofs.Laws.Gates.{as_verdict, refuse_accept, refuse_both}
 use Rattle.store.proofs.Laws.Puts.{over_take, put_length, put_take}
 use Rattle.store.proofs.Laws.Rep.{CellRep, Good, NamedIn, OpenRep, Rep, unitig_runs}
 use Rattle.store.proofs.Laws.Rep as rep
-use Rattle.store.proofs.Laws.Unitigs.{Told, first_of, join_told, last_of, piece_told, runs_long}
+use Rattle.store.proofs.Laws.Unitigs.{Told, join_told, last_of, piece_coords, piece_first, piece_told, runs_long, runs_sharp}
 
 -- a piece is no longer than what it makes
 pub few_of : {names : ℕ → Type 0} {n used : ℕ} {c : Option Unitig} {o : Current} {runs : List ℕ} → OpenRep names c o used runs → new_count c n ≤ 16777215 → n ≤ 16777215
@@ -81,7 +82,7 @@ module _ {N : ℕ} {p : PlainCell} {c : Cell} {b : CellBufs} (r : CellRep N p c 
     pub long : open_at o c.opened.used + length (open_new o old (oriented back n runs)) ≡ length (joined u piece).starts
 
   module _ (f : Fine p n runs) where
-    facts : Told (NamedIn p) n (oriented back n runs) piece
+    facts : Told (NamedIn p) n (merge (oriented back n runs)) piece
     facts = piece_told p.W (length p.S) n back runs (few_of r.opened f.small) f.is_sharp f.named
 
     joining : {u : Option Unitig} {o : Current} → OpenRep (NamedIn p) u o c.opened.used b.opened → new_count u n ≤ 16777215 → differs u piece ≡ false → Joining u o
@@ -94,9 +95,9 @@ module _ {N : ℕ} {p : PlainCell} {c : Cell} {b : CellBufs} (r : CellRep N p c 
           long = zero-add _ ∙ ap length (sym facts.runs_are) ∙ runs_long piece;
         }
     joining (rep.opened {u} {n = m} q g t) h e =
-        let h' : length u.coords + length piece.coords - 1 ≤ 16777215 = omega (arith, facts.long) in
-        let j = join_told u piece g facts.good e h' in
-        let z : old ++ appendix (last_coord old) m (oriented back n runs) ≡ unitig_runs (joined (some u) piece) = rw (t, q, ← facts.runs_are) (sym j.runs_are) in
+        let k = few_of (rep.opened q g t) h in
+        let j = join_told u g n back runs f.is_sharp k piece facts.good (piece_coords n back runs k f.is_sharp) e h in
+        let z : old ++ appendix (last_coord old) m (oriented back n runs) ≡ unitig_runs (joined (some u) piece) = rw (t, q) (sym j.runs_are) in
         let y : length old ≡ c.opened.used = length-take-le _ _ r.open_room in
         record {
           good = j.good;
@@ -111,9 +112,9 @@ module _ {N : ℕ} {p : PlainCell} {c : Cell} {b : CellBufs} (r : CellRep N p c 
     unfolding open_test differs ◌when◌else◌
     meets rep.closed h rest rest' k = k (joining rep.closed h refl)
     meets (rep.opened {u} {n = m} q g t) h rest rest' k =
-        let a : sharp m old ≡ true = rw (t, q) g.is_sharp in
+        let a : sharp m old ≡ true = rw (t, q) (runs_sharp u g) in
         let x : last_coord old ≡ get_or u.coords (length u.coords - 1) 0 = rw t (last_of u g) in
-        let y : first_coord (oriented back n runs) ≡ get_or piece.coords 0 0 = rw (← facts.runs_are) (first_of piece facts.good) in
+        let y : first_coord (oriented back n runs) ≡ get_or piece.coords 0 0 = piece_first n back runs (few_of (rep.opened q g t) h) f.is_sharp in
         rw (a, x, y) (refuse_both Junction rest rest' refl (λ e. k (joining (rep.opened q g t) h e)))
 
   pub join_tests_cell : as_verdict (join_test c b.opened n back runs) ≡ join_tests p n back runs

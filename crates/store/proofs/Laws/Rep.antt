@@ -1,8 +1,8 @@
 -- What ties the plain store to the state and the buffers: of a cell, of the shared part, of both.
 use Prim.Native.Nat.{ℕ, ◌+◌, ◌*◌, ◌≤◌, ◌<◌}
 use mathlib.Core.Path.{◌≡◌, refl}
-use mathlib.Core.Bool.{Bool, true, false}
-use mathlib.Core.List.{List, [], map}
+use mathlib.Core.Bool.{Bool, false}
+use mathlib.Core.List.{List, []}
 use mathlib.Core.Option.{Option, none, some}
 use native.Mathlib.Omega.{arith}
 use lib.ListN.{length, get_or, take}
@@ -13,10 +13,8 @@ use Rattle.base.proofs.Tests.{of_none}
 use Rattle.codec.specs.Flat.{bounds}
 use Rattle.codec.specs.Records.{bad_colors, file_of, record_of}
 use Rattle.codec.proofs.Promise.{IsSet}
-use Rattle.runs.specs.Colours.{colours}
-use Rattle.runs.specs.Orders.{sharp}
-use Rattle.runs.specs.Rotate.{runs_at}
-use Rattle.runs.specs.Words.{coordinate_of, offset, place_of, worker_of}
+use Rattle.runs.specs.Rotate.{firsts, runs_at}
+use Rattle.runs.specs.Words.{coordinate_of, place_of, worker_of}
 use Rattle.store.specs.Altered.{altered, altered_buffer, altered_cell, altered_shared, bad_current, bad_vertices}
 use Rattle.store.specs.Demand.{table_of, way_of}
 use Rattle.store.specs.Plain.{Plain, PlainCell, SharedLengths, Unitig, Update, Way, add, close, closed_bytes, join}
@@ -41,13 +39,11 @@ pub record Named (W sets coord : ℕ) : Type 0 where
   pub own : worker_of coord ≡ W
   pub low : place_of coord < sets
 
--- a unitig that its runs tell whole, each vertex naming a record
+-- a unitig whose runs start at vertex 0 and at each vertex unlike the one before, each vertex naming a record
 pub record Good (names : ℕ → Type 0) (u : Unitig) : Type 0 where
   pub vertices : 0 < length u.coords
   pub few : length u.coords ≤ 16777215
-  pub is_sharp : sharp (length u.coords) (unitig_runs u) ≡ true
-  pub tell : colours (length u.coords) (unitig_runs u) ≡ u.coords
-  pub offsets : map offset (unitig_runs u) ≡ u.starts
+  pub begin : u.starts ≡ firsts u.coords
   pub named : All names u.coords
 
 -- ---- buffers

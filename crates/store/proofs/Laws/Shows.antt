@@ -19,6 +19,7 @@ use Rattle.codec.specs.Flat.{flat}
 use Rattle.runs.specs.Bytes.{found, sharp_colour, sharp_colour_in}
 use Rattle.runs.specs.Orders.{most_vertices}
 use Rattle.runs.proofs.Laws.Widths.{Narrow}
+use Rattle.runs.specs.Rotate.{merged}
 use Rattle.store.specs.Demand.{Seen, as_seen, runs_of, seen, table_of}
 use Rattle.store.specs.Plain.{Plain, PlainCell, SharedLengths, Unitig, bytes_of, coord_at, ids_at, no_unitig, no_vertex, plain_show, refusal, shown}
 use Rattle.store.specs.Show.{coord_from, no_place, set_by, show_step, shown_by, vertex_coord, vertex_set}
@@ -30,7 +31,7 @@ use Rattle.store.proofs.Laws.Flats.{flat_take, from_start}
 use Rattle.store.proofs.Laws.Rep.{CellRep, Good, NamedIn, Rep, SharedRep, unaltered, unitig_runs}
 use Rattle.store.proofs.Laws.Same.{set_here}
 use Rattle.store.proofs.Laws.Table.{count_at_table, start_at_table}
-use Rattle.store.proofs.Laws.Unitigs.{colour_of, name_of, read_of}
+use Rattle.store.proofs.Laws.Unitigs.{colour_of, name_of, read_of, runs_merged, runs_sharp}
 
 -- a coordinate that names a record has 40 bits
 pub named_narrow : {N : ℕ} {p : PlainCell} {c : Cell} {b : CellBufs} → CellRep N p c b → (coord : ℕ) → NamedIn p coord → Narrow coord
@@ -69,6 +70,9 @@ module _ {names : ℕ → Type 0} {us : List Unitig} {l : SharedLengths} {s : Sh
         let x = read_of narrow here good_here (flat bytes_of (drop (suc k) us)) in
         rw (start_is, r.closed.far, r.closed.bytes, d, x)
 
+    pub merged_are : runs_of s b k ≡ found (merged here.coords) (flat bytes_of (drop (suc k) us))
+    merged_are = runs_are ∙ ap (λ (ws : List ℕ). found ws (flat bytes_of (drop (suc k) us))) (runs_merged here good_here)
+
     pub coord_is : (v : ℕ) → v < length here.coords → vertex_coord s b.runs b.table k v ≡ some (get_or here.coords v 0)
     unfolding coord_from sharp_colour sharp_colour_in ◌when◌else◌
     coord_is v g =
@@ -76,7 +80,7 @@ module _ {names : ℕ → Type 0} {us : List Unitig} {l : SharedLengths} {s : Sh
         let low : get_or b.table (2 * k) 0 ≤ s.runs.used = rw (start_is, r.closed.far) (flat_take bytes_of us k) in
         let inside : ltb s.runs.used (get_or b.table (2 * k) 0) ≡ false = le-ltb _ _ low in
         let there : leb (length here.coords) v ≡ false = lt-leb _ _ g in
-        rw (runs_are, count_is, few, inside, there, good_here.is_sharp, colour_of here good_here v g)
+        rw (runs_are, count_is, few, inside, there, runs_sharp here good_here, colour_of here good_here v g)
 
 -- ---- show
 

@@ -6,7 +6,7 @@ use compare::random::Random;
 use compare::run::grouped;
 use model::MAX_VERTICES;
 use model::records::record_of;
-use model::runs::{offset, pack};
+use model::runs::{coordinate, has_equal_neighbours, merged, offset, pack};
 use oracle::color::{self, ColorWorkerWriter};
 use oracle::drive;
 use oracle::state::{ColorCoordinate, UnitigColor};
@@ -361,40 +361,90 @@ fn reverse_and_append(table: &mut Table, count: usize, n: u32) {
             ));
         },
     );
-    // Behind an output of one run: the whole piece is written.
-    let one = pack(0, 1 << 39);
+    assert!(!has_equal_neighbours(&runs));
     for (name, reverse) in [("append", false), ("append, reversed", true)] {
-        let mut output = words(&[one]);
-        out[0] = one;
-        table.row(
-            name,
-            input.clone(),
-            ("run", count),
-            || {
-                output.truncate(1);
-                color::append_color_runs(&mut output, 1, black_box(&list), n, reverse);
-                black_box(&output);
-            },
-            || {
-                let [runs_now, vertices] = &mut numbers;
-                accepted(proved::append_runs(
-                    &mut out,
-                    1,
-                    1,
-                    black_box(&runs),
-                    n,
-                    reverse,
-                    runs_now,
-                    vertices,
-                ));
-                black_box(&out);
-            },
-        );
+        let (reference, proved) = append(table, name, &runs, n, reverse);
+        assert_eq!(reference.len(), count + 1);
         if proved::HERE {
-            let appended: Vec<u64> = output.iter().map(|run| run.raw()).collect();
-            assert_eq!(out, appended);
+            assert_eq!(proved, reference);
         }
     }
+}
+
+/// The piece behind an output of one run, unlike its first one; what each side makes of it, the proved code's where it takes part.
+fn append(
+    table: &mut Table,
+    name: &'static str,
+    runs: &[u64],
+    n: u32,
+    reverse: bool,
+) -> (Vec<u64>, Vec<u64>) {
+    let one = pack(0, 1 << 39);
+    let list = words(runs);
+    let input = format!(
+        "{} runs, n = {}",
+        grouped(runs.len() as u64),
+        grouped(n.into())
+    );
+    let mut output = words(&[one]);
+    let (mut out, mut numbers) = (vec![0; runs.len() + 1], [0; 2]);
+    out[0] = one;
+    table.row(
+        name,
+        input,
+        ("run", runs.len()),
+        || {
+            output.truncate(1);
+            color::append_color_runs(&mut output, 1, black_box(&list), n, reverse);
+            black_box(&output);
+        },
+        || {
+            let [runs_now, vertices] = &mut numbers;
+            accepted(proved::append_runs(
+                &mut out,
+                1,
+                1,
+                black_box(runs),
+                n,
+                reverse,
+                runs_now,
+                vertices,
+            ));
+            black_box(&out);
+        },
+    );
+    out.truncate(numbers[0] as usize);
+    (output.iter().map(|run| run.raw()).collect(), out)
+}
+
+/// Pieces with equal neighbours, of which the proved code keeps the first and the reference all.
+fn append_merged(table: &mut Table, count: usize, n: u32) {
+    let mut random = Random::new(27);
+    let half = repeating(even(count, n), |_| random.flip());
+    let tens = repeating(even(count, n), |i| i % 10 > 0);
+    assert_eq!(merged(&tens).len(), count.div_ceil(10));
+    for (name, runs, reverse) in [
+        ("append, half of the runs repeating", &half, false),
+        ("append, half of the runs repeating, reversed", &half, true),
+        ("append, ten equal neighbours each", &tens, false),
+        ("append, ten equal neighbours each, reversed", &tens, true),
+    ] {
+        let (reference, proved) = append(table, name, runs, n, reverse);
+        assert!(has_equal_neighbours(&reference));
+        if proved::HERE {
+            assert_eq!(proved, merged(&reference));
+        }
+    }
+}
+
+/// The list, in which these runs repeat the coordinate before them.
+fn repeating(mut runs: Vec<u64>, mut repeats: impl FnMut(usize) -> bool) -> Vec<u64> {
+    for i in 1..runs.len() {
+        if repeats(i) {
+            runs[i] = pack(offset(runs[i]), coordinate(runs[i - 1]));
+        }
+    }
+    runs
 }
 
 fn rotate(table: &mut Table, count: usize, n: u32, reverse: bool) {
@@ -755,6 +805,7 @@ fn main() {
     small_sets(&mut one, 1000);
     index(&mut one, 100_000);
     reverse_and_append(&mut one, 100_000, 1_000_000);
+    append_merged(&mut one, 100_000, 1_000_000);
     rotate(&mut one, 100_000, 1_000_000, false);
     rotate(&mut one, 100_000, 1_000_000, true);
     rotate(&mut one, 100_000, most, false);
@@ -805,7 +856,8 @@ Written by `cargo run --release --bin bench` in `host/`; don't edit it. Processo
 
 Both sides run in one process on the same inputs, in turn: the reference (the Rust functions copied in `host/oracle`) as
 Rust, the proved code through its C functions. Release builds. The shortest of {ROUNDS} rounds counts, each of as many calls
-as take {:.0} ms. Each answer was compared with the other side's. Inputs lie in memory and were read before. The proved
+as take {:.0} ms. Each answer was compared with the other side's; where a piece has equal neighbours, which the reference
+keeps, with the reference's without them. Inputs lie in memory and were read before. The proved
 code's outputs are lent, allocated before the first round and written in earlier calls. The reference keeps its space from
 call to call where its functions let it (writing records and run bytes, reading run bytes, append) and allocates its result
 where they do (reading a record, index, reverse, rotate). \"Times as fast\" is the reference's time over the proved code's.

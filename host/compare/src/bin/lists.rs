@@ -4,12 +4,14 @@
 //! the same run. The stores of one colour count are then compared, each with each: the record bytes of the one are the beginning
 //! of the other's exactly when its accepted sets are. Exits with 1 where an answer or such a pair differs; where a refusal that calls
 //! can reach, a bound, or what can become of an empty set, was not met; where a set was filed in fewer than a third of the unitigs
-//! while they were open, or no piece named one, no show gave one, or no join was sent again after one; or where fewer than a fifth
-//! of the closed unitigs are cycles, or a kind of cycle was not met: as with far fewer calls.
+//! while they were open, or no piece named one, no show gave one, or no join was sent again after one; where fewer than a fifth
+//! of the closed unitigs are cycles, or a kind of cycle was not met; or where fewer than two fifths of the runs repeat the coordinate
+//! before them, or something that becomes of such runs was not met: as with far fewer calls.
 
 use compare::commands::{Line, lines_of};
 use compare::cycles::CYCLES;
 use compare::lists::{Crossed, History, List, REACHED, Told};
+use compare::merging::{MERGING, Merging};
 use compare::random::Random;
 use compare::run::grouped;
 use compare::sessions::{MOST_BYTES, Session, session_of};
@@ -286,6 +288,30 @@ fn print_cycles(cycles: &[u64; CYCLES.len()]) -> u64 {
     failed
 }
 
+/// What was met of [`MERGING`], and how many runs repeat the coordinate before them; how many failures that is.
+fn print_merging(merging: &Merging) -> u64 {
+    println!(
+        "runs sent, but for those dropped at junctions: {}, of which {} repeat the coordinate before them",
+        grouped(merging.sent),
+        grouped(merging.repeating)
+    );
+    let mut failed = 0;
+    if 5 * merging.repeating < 2 * merging.sent {
+        println!("FAILED: fewer than two fifths of the runs repeat the coordinate before them");
+        failed += 1;
+    }
+    println!("equal neighbours:");
+    for name in MERGING {
+        let count = merging.met.get(name).copied().unwrap_or(0);
+        println!("  {name}: {}", grouped(count));
+        if count == 0 {
+            println!("FAILED: no {name}");
+            failed += 1;
+        }
+    }
+    failed
+}
+
 fn main() {
     let numbers: Vec<String> = std::env::args().skip(1).collect();
     let number = |place: usize, usual: u64| match numbers.get(place) {
@@ -307,6 +333,7 @@ fn main() {
     let (mut adds, mut empty) = (0, 0);
     let mut crossed = Crossed::default();
     let mut cycles = [0; CYCLES.len()];
+    let mut merging = Merging::default();
     let mut histories = Vec::new();
     while made < calls || lists < LARGEST {
         let shape = if lists < LARGEST {
@@ -332,6 +359,7 @@ fn main() {
         for (count, here) in cycles.iter_mut().zip(list.cycles()) {
             *count += here;
         }
+        merging.add(&list.merging());
         histories.extend(list.history());
         let counted = counted_of(&list);
         let lines = lines_of(&list);
@@ -408,6 +436,7 @@ fn main() {
         failed += 1;
     }
     failed += print_cycles(&cycles);
+    failed += print_merging(&merging);
     println!("lists that reach a bound, or hold a call on an empty set:");
     for (name, &count) in REACHED.iter().zip(&reached) {
         println!("  {name}: {}", grouped(count));

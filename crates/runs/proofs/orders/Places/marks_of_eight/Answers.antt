@@ -1,0 +1,19 @@
+-- `runs::orders::Places::marks_of_eight` meets its contract.
+use native.Mathlib.Omega.{arith}
+use Rattle.runs.proofs.Laws.Falls.{eight_fit}
+use Rattle.runs.proofs.orders.Places.marks_of_eight.Goals as goal
+
+pub overflow_add-result-7 : goal.overflow_add-result-7
+overflow_add-result-7 g c =
+    omega (
+      arith,
+      eight_fit g.row.WEIGHT _ (omega (arith, c.requires.0, c.requires.1)) c.requires.2,
+      c.mark_at.ensures.1,
+      c.mark_at-2.ensures.1,
+      c.mark_at-3.ensures.1,
+      c.mark_at-4.ensures.1,
+      c.mark_at-5.ensures.1,
+      c.mark_at-6.ensures.1,
+      c.mark_at-7.ensures.1,
+      c.mark_at-8.ensures.1,
+    )
