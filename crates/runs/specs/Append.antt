@@ -23,7 +23,7 @@ shift k w = pack (offset w + k) (coordinate w)
 unfoldable pub shifted : ℕ → List ℕ → List ℕ
 shifted k ws = map (shift k) ws
 
--- what append puts behind an output of `count` vertices that ends on coordinate c: the oriented piece's runs, without those that have the coordinate of the one before (request F-9)
+-- what append puts behind an output of `count` vertices that ends on coordinate c: the oriented piece's runs, without those that have the coordinate of the one before, which for the first is the output's last (request F-9)
 unfoldable pub appendix : ℕ → ℕ → List ℕ → List ℕ
 appendix c count piece = shifted (count - 1) (merge_behind c piece)
 

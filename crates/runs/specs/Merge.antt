@@ -1,4 +1,4 @@
--- Request F-9: equal neighbours merged. Of neighbouring runs of one coordinate the first stays.
+-- Request F-9: equal neighbours merged. Of neighbouring runs of one coordinate the first stays. (The runs of a list of colours are `merged` in Rotate.)
 use Rattle.std.specs.Prelude.{ℕ, Bool, true, false, not, ◌&&◌, Option, Some, None, List, [], ◌∷◌, length, ltb, eqb}
 use Rattle.base.specs.Tests.{◌when◌else◌}
 use Rattle.base.specs.Answers.{Answer, refused, done}
@@ -22,7 +22,7 @@ unfoldable pub merge : List ℕ → List ℕ
 merge [] = []
 merge (w ∷ ws) = w ∷ merge_behind (coordinate w) ws
 
--- whether it has no equal neighbours, and whether it has none behind a run of coordinate c
+-- whether a list has no equal neighbours; first, behind a run of coordinate c
 unfoldable pub unlike_behind : ℕ → List ℕ → Bool
 unlike_behind c [] = true
 unlike_behind c (w ∷ ws) = not (eqb c (coordinate w)) && unlike_behind (coordinate w) ws

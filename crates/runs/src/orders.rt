@@ -1,4 +1,4 @@
-// Steady and sharp lists, and where their runs end.
+// Steady and sharp lists, how many runs a sharp one has once merged, and where runs end.
 ghost use Rattle.std.specs.Prelude.{◌≡◌, ◌+◌, ◌-◌, ◌*◌, ◌^◌, ◌<◌, ◌≤◌, length, MatchResult};
 ghost use Rattle.runs.specs.Colours.{end_at, last_coord};
 ghost use Rattle.runs.specs.Orders.{steady, sharp};
@@ -12,7 +12,7 @@ use crate::words;
 use base::Refusal;
 
 // A list, and how many vertices each run is to begin behind the one before it, at least: none in a steady list, one in a sharp one. Where it
-// begins fewer behind, the list falls. Of each place is counted 1 where the list falls, and WEIGHT where two neighbours have one coordinate.
+// begins fewer behind, the list falls. Of each place is counted FALL where the list falls, and ALIKE where two neighbours have one coordinate.
 #[derive(Drop)]
 struct Places<R: Runs> {
     runs: R,
@@ -22,69 +22,69 @@ struct Places<R: Runs> {
 
 impl<R: Runs> Places<R> {
     // What is counted at place p, between runs p and p + 1. A number, so that several are counted at a time.
-    fn mark_at<const WEIGHT: u64>(&self, p: usize) -> u64
-        requires { (p + 1 < length (R.list self.now.runs)) × Countable WEIGHT (R.list self.now.runs) }
-        ensures { (result ≡ mark self.now.step WEIGHT (R.list self.now.runs) p) × (result ≤ 1 + WEIGHT) }
+    fn mark_at<const FALL: u64, const ALIKE: u64>(&self, p: usize) -> u64
+        requires { (p + 1 < length (R.list self.now.runs)) × Countable FALL ALIKE (R.list self.now.runs) }
+        ensures { (result ≡ mark self.now.step FALL ALIKE (R.list self.now.runs) p) × (result ≤ FALL + ALIKE) }
     {
         let run = self.runs.run_at(p);
         let next = self.runs.run_at(p + 1);
         let fall = (run % 16777216 + (16777215 + self.step) - next % 16777216) / 16777216;
         let alike = run / 16777216 == next / 16777216;
-        fall + WEIGHT * u64::from(alike)
+        FALL * fall + ALIKE * u64::from(alike)
     }
 
     // At eight places, each `apart` behind the one before. Eight are written out, so that they are read side by side.
-    fn marks_of_eight<const WEIGHT: u64>(&self, p: usize, apart: usize) -> u64
-        requires { (0 < apart) × (7 * apart + p + 1 < length (R.list self.now.runs)) × Countable WEIGHT (R.list self.now.runs) }
-        ensures { result ≡ of_eight (mark self.now.step WEIGHT (R.list self.now.runs)) apart p }
+    fn marks_of_eight<const FALL: u64, const ALIKE: u64>(&self, p: usize, apart: usize) -> u64
+        requires { (0 < apart) × (7 * apart + p + 1 < length (R.list self.now.runs)) × Countable FALL ALIKE (R.list self.now.runs) }
+        ensures { result ≡ of_eight (mark self.now.step FALL ALIKE (R.list self.now.runs)) apart p }
     {
-        self.mark_at::<WEIGHT>(p)
-            + self.mark_at::<WEIGHT>(apart + p)
-            + self.mark_at::<WEIGHT>(2 * apart + p)
-            + self.mark_at::<WEIGHT>(3 * apart + p)
-            + self.mark_at::<WEIGHT>(4 * apart + p)
-            + self.mark_at::<WEIGHT>(5 * apart + p)
-            + self.mark_at::<WEIGHT>(6 * apart + p)
-            + self.mark_at::<WEIGHT>(7 * apart + p)
+        self.mark_at::<FALL, ALIKE>(p)
+            + self.mark_at::<FALL, ALIKE>(apart + p)
+            + self.mark_at::<FALL, ALIKE>(2 * apart + p)
+            + self.mark_at::<FALL, ALIKE>(3 * apart + p)
+            + self.mark_at::<FALL, ALIKE>(4 * apart + p)
+            + self.mark_at::<FALL, ALIKE>(5 * apart + p)
+            + self.mark_at::<FALL, ALIKE>(6 * apart + p)
+            + self.mark_at::<FALL, ALIKE>(7 * apart + p)
     }
 
     // At the first 8 * `eighth` places. Eight parts are read side by side: so a list in far memory is read sooner.
-    fn marks_in_eighths<const WEIGHT: u64>(&self, eighth: usize) -> u64
-        requires { (8 * eighth < length (R.list self.now.runs)) × Countable WEIGHT (R.list self.now.runs) }
-        ensures { result ≡ total (mark self.now.step WEIGHT (R.list self.now.runs)) 0 (8 * eighth) }
+    fn marks_in_eighths<const FALL: u64, const ALIKE: u64>(&self, eighth: usize) -> u64
+        requires { (8 * eighth < length (R.list self.now.runs)) × Countable FALL ALIKE (R.list self.now.runs) }
+        ensures { result ≡ total (mark self.now.step FALL ALIKE (R.list self.now.runs)) 0 (8 * eighth) }
     {
         (0..eighth)
             .map(
                 |i|
-                    requires { (i < eighth) × Countable WEIGHT (R.list self.now.runs) × (8 * eighth < length (R.list self.now.runs)) }
-                    ensures { result ≡ of_eight (mark self.entry.now.step WEIGHT (R.list self.entry.now.runs)) eighth i }
-                { self.marks_of_eight::<WEIGHT>(i, eighth) },
+                    requires { (i < eighth) × Countable FALL ALIKE (R.list self.now.runs) × (8 * eighth < length (R.list self.now.runs)) }
+                    ensures { result ≡ of_eight (mark self.entry.now.step FALL ALIKE (R.list self.entry.now.runs)) eighth i }
+                { self.marks_of_eight::<FALL, ALIKE>(i, eighth) },
             )
             .sum()
     }
 
     // At the places from `from` on.
-    fn marks_from<const WEIGHT: u64>(&self, from: usize) -> u64
-        requires { (from < length (R.list self.now.runs)) × Countable WEIGHT (R.list self.now.runs) }
-        ensures { result ≡ total (mark self.now.step WEIGHT (R.list self.now.runs)) from (length (R.list self.now.runs) - 1 - from) }
+    fn marks_from<const FALL: u64, const ALIKE: u64>(&self, from: usize) -> u64
+        requires { (from < length (R.list self.now.runs)) × Countable FALL ALIKE (R.list self.now.runs) }
+        ensures { result ≡ total (mark self.now.step FALL ALIKE (R.list self.now.runs)) from (length (R.list self.now.runs) - 1 - from) }
     {
         (from..self.runs.count() - 1)
             .map(
                 |p|
-                    requires { (p + 1 < length (R.list self.now.runs)) × Countable WEIGHT (R.list self.now.runs) }
-                    ensures { result ≡ mark self.entry.now.step WEIGHT (R.list self.entry.now.runs) p }
-                { self.mark_at::<WEIGHT>(p) },
+                    requires { (p + 1 < length (R.list self.now.runs)) × Countable FALL ALIKE (R.list self.now.runs) }
+                    ensures { result ≡ mark self.entry.now.step FALL ALIKE (R.list self.entry.now.runs) p }
+                { self.mark_at::<FALL, ALIKE>(p) },
             )
             .sum()
     }
 
     // At all places.
-    fn marks<const WEIGHT: u64>(&self) -> u64
-        requires { (0 < length (R.list self.now.runs)) × Countable WEIGHT (R.list self.now.runs) }
-        ensures { result ≡ total (mark self.now.step WEIGHT (R.list self.now.runs)) 0 (length (R.list self.now.runs) - 1) }
+    fn marks<const FALL: u64, const ALIKE: u64>(&self) -> u64
+        requires { (0 < length (R.list self.now.runs)) × Countable FALL ALIKE (R.list self.now.runs) }
+        ensures { result ≡ total (mark self.now.step FALL ALIKE (R.list self.now.runs)) 0 (length (R.list self.now.runs) - 1) }
     {
         let eighth = (self.runs.count() - 1) / 8;
-        self.marks_in_eighths::<WEIGHT>(eighth) + self.marks_from::<WEIGHT>(8 * eighth)
+        self.marks_in_eighths::<FALL, ALIKE>(eighth) + self.marks_from::<FALL, ALIKE>(8 * eighth)
     }
 
     // Whether the first run begins at vertex 0, and the last at least `step` vertices before n.
@@ -104,7 +104,7 @@ fn is_spaced<R: Runs>(runs: R, step: u64, n: u32) -> bool
     ensures { result ≡ spaced step n (R.list runs) }
 {
     let places = Places { runs, step };
-    places.is_framed(n) && places.marks::<0>() == 0
+    places.is_framed(n) && places.marks::<1, 0>() == 0
 }
 
 // Whether a list is sharp for n vertices.
@@ -131,22 +131,22 @@ pub fn is_sharp(runs: &[u64], n: u32) -> bool
 }
 
 // How many runs the list has once its equal neighbours are merged, or none where it isn't sharp for n vertices: one pass makes the test and
-// the count. Its marks are told apart, since a sharp list has no more runs than vertices.
+// the count. Its marks are told apart, since a sharp list has no more runs than there are offsets.
 pub fn merged_count(runs: &[u64], n: u32) -> Option<usize>
     ensures { result ≡ merged_count n runs.now }
 {
-    if runs.is_empty() || (n as usize) < runs.len() {
+    if runs.is_empty() || 16777216 < runs.len() {
         return None;
     }
     let places = Places { runs, step: 1 };
     if !places.is_framed(n) {
         return None;
     }
-    let marks = places.marks::<4294967296>();
-    if marks % 4294967296 != 0 {
+    let marks = places.marks::<16777216, 1>();
+    if 16777216 <= marks {
         return None;
     }
-    Some(runs.len() - (marks / 4294967296) as usize)
+    Some(runs.len() - marks as usize)
 }
 
 // Whether reverse and rotate take the list: 7, a vertex count above its limit, then 6, not steady.

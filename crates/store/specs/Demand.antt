@@ -1,4 +1,4 @@
--- Section 7 of 01: lists of calls on the store over its buffers, and demand 3 of such a list.
+-- Section 7 of 01, with request F-9: lists of calls on the store over its buffers, and demand 3 of such a list.
 use Rattle.std.specs.Prelude.{ℕ, ◌+◌, ◌*◌, ◌<◌, ◌≡◌, List, [], ◌∷◌, ◌++◌, map, length, get_or, take, drop, eqb}
 use Rattle.std.proofs.Math.Option.{Option, none, some}
 use Rattle.base.specs.Tests.{◌when◌else◌}
@@ -113,7 +113,7 @@ set_for coord ((a, add ids) ∷ us) = some ids when eqb a coord else set_for coo
 set_for coord ((a, join n r piece) ∷ us) = set_for coord us
 set_for coord ((a, close w) ∷ us) = set_for coord us
 
--- how often the coordinate changes from one vertex to the next, and so behind a vertex of coordinate c
+-- how often the coordinate changes from one vertex to the next; first, counted from a vertex of coordinate c on
 unfoldable pub changes_behind : ℕ → List ℕ → ℕ
 changes_behind c [] = 0
 changes_behind c (d ∷ ds) = (0 when eqb c d else 1) + changes_behind d ds
@@ -183,8 +183,8 @@ pub record Demand3 (N W : ℕ) (lengths : Lengths) (calls : List LentCall) (r : 
   -- the run file and the table are the closed unitigs'
   pub unitigs : UnitigsKept (plain_run (plain_fresh N W lengths) (map sent calls)).1.closed r.1.shared r.2.shared
   -- their runs, and the open ones, are merged
-  pub opened : OpenMerged (plain_run (plain_fresh N W lengths) (map sent calls)).1.cell.current r.1.cell r.2.cell
   pub merged : RunsMerged (plain_run (plain_fresh N W lengths) (map sent calls)).1.closed r.1.shared r.2.shared
+  pub opened : OpenMerged (plain_run (plain_fresh N W lengths) (map sent calls)).1.cell.current r.1.cell r.2.cell
 
 -- the claim: after an accepted start, of every list of calls
 abbrev pub DemandStatement : Type 0

@@ -17,16 +17,16 @@ use Rattle.runs.specs.Colours.{next, end_at, colours, starts, colour_at, last_ru
 use Rattle.runs.specs.Orders.{most_vertices, steady, sharp, list_into}
 use Rattle.runs.specs.Inside.Lists.{Sharp}
 use Rattle.runs.specs.Reverse.{reverse_runs, oriented, reverse_into, reverse_in_place}
-use Rattle.runs.specs.Merge.{merge, merge_behind, unlike_neighbours}
+use Rattle.runs.specs.Merge.{merge, merge_behind, unlike_behind, unlike_neighbours}
 use Rattle.runs.specs.Append.{shifted, skip, appendix, append_runs, unmerged_runs, bad_counts, joinable}
 use Rattle.runs.specs.Rotate.{turn_left, firsts, runs_at, merged, rotate_runs}
 use Rattle.runs.specs.Bytes.{run_bytes, ReadRuns, given_in, read_runs_into}
-use Rattle.runs.proofs.Laws.Orders.{steady_yes, yes_steady, sharp_yes, yes_sharp, sharp_steady, sharp_vertices, run_begins}
+use Rattle.runs.proofs.Laws.Orders.{steady_yes, yes_steady, sharp_yes, yes_sharp, sharp_steady, sharp_vertices, steady_sharp, run_begins}
 use Rattle.runs.proofs.Laws.Colours.{length_colours, steady_long, steady_at, colour_steady}
 use Rattle.runs.proofs.Laws.Reverse as back
 use Rattle.runs.proofs.Laws.Merged.{colours_merged, merged_sharp, starts_merged}
 use Rattle.runs.proofs.Laws.Cursor.{turn_long}
-use Rattle.runs.proofs.Laws.Merge.{behind_first, behind_own, merge_colours, merge_merged, merge_same, merge_sharp, merge_some, merge_unlike, merge_whole, oriented_unlike, unlike_oriented}
+use Rattle.runs.proofs.Laws.Merge.{behind_first, behind_own, merge_colours, merge_merged, merge_same, merge_sharp, merge_some, merge_steady, merge_unlike, merge_whole, oriented_unlike, unlike_join, unlike_oriented}
 use Rattle.runs.proofs.Laws.Append.{counts, joinable_is, length_shifted, sharp_counts, skip_le}
 use Rattle.runs.proofs.Laws.Joints as joints
 use Rattle.runs.proofs.Laws.Joints.{sharp_joinable}
@@ -92,22 +92,43 @@ in_place_agrees ws n =
 
 -- ---- merge
 
--- of a sharp list: vertex by vertex the colours stay, the list is sharp again, it is the runs of its colours; no neighbours are equal, and merging twice is merging once (Laws/Merge: `merge_unlike`, `merge_twice`)
-module _ (n : ℕ) (ws : List ℕ) (list : sharp n ws ≡ true) where
+-- of any list no neighbours are equal then, and merging twice is merging once: Laws/Merge, `merge_unlike` and `merge_twice`
+
+-- of a steady list: vertex by vertex the colours stay, and the list is steady again
+module _ (n : ℕ) (ws : List ℕ) (list : steady n ws ≡ true) where
   pub merged_colours : colours n (merge ws) ≡ colours n ws
-  merged_colours = merge_colours n ws (sharp_steady n ws (sharp_yes n ws list)).up
+  merged_colours = merge_colours n ws (steady_yes n ws list).up
 
-  pub merged_vertex : (v : ℕ) → v < n → colour_at v (merge ws) ≡ colour_at v ws
-  merged_vertex v h =
-      let s = sharp_yes n ws list in
-      let m = sharp_steady n (merge ws) (merge_sharp n ws s) in
-      colour_steady n (merge ws) v m (merge_some ws s.some) h ∙ ap (λ (cs : List ℕ). get_or cs v 0) merged_colours ∙ sym (colour_steady n ws v (sharp_steady n ws s) s.some h)
+  pub merged_vertex : (v : ℕ) → 0 < length ws → v < n → colour_at v (merge ws) ≡ colour_at v ws
+  merged_vertex v some h =
+      let s = steady_yes n ws list in
+      colour_steady n (merge ws) v (merge_steady n ws s) (merge_some ws some) h ∙ ap (λ (cs : List ℕ). get_or cs v 0) merged_colours ∙ sym (colour_steady n ws v s some h)
 
+  pub merged_is_steady : steady n (merge ws) ≡ true
+  merged_is_steady = yes_steady n (merge ws) (merge_steady n ws (steady_yes n ws list))
+
+-- of a sharp one: it is sharp again, and it is the runs of its colours
+module _ (n : ℕ) (ws : List ℕ) (list : sharp n ws ≡ true) where
   pub merged_is_sharp : sharp n (merge ws) ≡ true
   merged_is_sharp = yes_sharp n (merge ws) (merge_sharp n ws (sharp_yes n ws list))
 
   pub merged_is : merge ws ≡ merged (colours n ws)
   merged_is = merge_merged n ws (sharp_yes n ws list)
+
+  -- from either end the same list, whether it is merged first or turned round first
+  module _ (few : n ≤ most_vertices) where
+    turned : (xs : List ℕ) → sharp n xs ≡ true → merge (reverse_runs n xs) ≡ merged (reverse (colours n xs))
+    turned xs e =
+        let s = sharp_yes n xs e in
+        merge_merged n (reverse_runs n xs) (back.oriented_sharp true n xs (omega (arith, few)) s) ∙ ap merged (back.colours_reversed n xs (omega (arith, few)) (sharp_steady n xs s))
+
+    pub merged_oriented : (r : Bool) → merge (oriented r n ws) ≡ oriented r n (merge ws)
+    merged_oriented false = refl
+    merged_oriented true =
+        turned ws list
+        ∙ ap (λ (cs : List ℕ). merged (reverse cs)) (sym (merged_colours n ws (steady_sharp n ws list)))
+        ∙ sym (turned (merge ws) merged_is_sharp)
+        ∙ merge_same (reverse_runs n (merge ws)) (oriented_unlike true n (merge ws) (omega (arith, few)) (merge_unlike ws))
 
 -- colours merged into runs leave no equal neighbours
 pub merged_runs_unlike : (cs : List ℕ) → 0 < length cs → length cs ≤ most_vertices → unlike_neighbours (merged cs) ≡ true
@@ -124,6 +145,23 @@ module _ (out : List ℕ) (a : ℕ) (piece : List ℕ) (b : ℕ) (r : Bool) (goo
       let j = joinable_is a out may in
       let c = counts a b good in
       joints.colours_appended out a piece b r j.list j.some j.last (sharp_yes b piece list) (omega (arith, c.sum))
+
+  -- the same that 01's own append, which the reference has, gives
+  pub as_reference_colours : colours (a + b - 1) (append_runs out a piece b r) ≡ colours (a + b - 1) (unmerged_runs out a piece b r)
+  as_reference_colours =
+      let j = joinable_is a out may in
+      let c = counts a b good in
+      appended_colours ∙ sym (joints.colours_unmerged out a piece b r j.list j.some j.last (sharp_yes b piece list) (omega (arith, c.sum)))
+
+  -- what is put behind the output has no equal neighbours, nor is its first run like the output's last; so the whole list has none where the output has none
+  pub appendix_unlike : unlike_behind (last_coord out) (appendix (last_coord out) a (oriented r b piece)) ≡ true
+  appendix_unlike =
+      let c = counts a b good in
+      joints.unlike_appendix (last_coord out) a b (oriented r b piece) (back.oriented_sharp r b piece (omega (arith, c.sum, c.left, c.right)) (sharp_yes b piece list)) (omega (arith, c.sum, c.left, c.right))
+
+  pub appended_unlike : unlike_neighbours out ≡ true → unlike_neighbours (append_runs out a piece b r) ≡ true
+  unfolding append_runs
+  appended_unlike e = unlike_join out (appendix (last_coord out) a (oriented r b piece)) (joinable_is a out may).some e appendix_unlike
 
   -- and a piece can stand behind the result
   pub appended_joinable : joinable (a + b - 1) (append_runs out a piece b r) ≡ true
@@ -151,12 +189,6 @@ module _ (out : List ℕ) (a : ℕ) (piece : List ℕ) (b : ℕ) (r : Bool) (sma
       long : (k : ℕ) (os : List ℕ) → k ≤ 1 → out ++ shifted (a - 1) (drop k (merge os)) ≡ out ++ shifted (a - 1) (drop k os) → length (merge os) ≡ length os
       long k [] h q = refl
       long k (w ∷ ws) h q = omega (arith, ap length q, behind (drop k (merge (w ∷ ws))), behind (drop k (w ∷ ws)), length-drop k (merge (w ∷ ws)), length-drop k (w ∷ ws), merge_some (w ∷ ws) (omega arith))
-
--- behind an output without equal neighbours none are added
-pub appended_unlike : (out : List ℕ) (a : ℕ) (piece : List ℕ) (b : ℕ) (r : Bool) → bad_counts a b ≡ false → joinable a out ≡ true → sharp b piece ≡ true → unlike_neighbours out ≡ true → unlike_neighbours (append_runs out a piece b r) ≡ true
-appended_unlike out a piece b r good may list e =
-    let c = counts a b good in
-    joints.unlike_appended out a piece b r (joinable_is a out may).some e (sharp_yes b piece list) (omega (arith, c.sum, c.left, c.right))
 
 module _ (out : List ℕ) (a : ℕ) (piece : List ℕ) (b : ℕ) (r : Bool) (one : sharp a out ≡ true) (two : sharp b piece ≡ true) (few : a + b - 1 ≤ most_vertices) (meet : last_coord out ≡ first_coord (oriented r b piece)) where
   -- behind a sharp output that ends on the piece's first coordinate the list is sharp again

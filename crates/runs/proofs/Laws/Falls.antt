@@ -1,5 +1,5 @@
 -- What is counted at the places of a list: where it falls, which the tests for steady and sharp lists count, and where neighbours are alike.
-use Prim.Native.Nat.{ℕ, zero, suc, ◌+◌, ◌-◌, ◌*◌, ◌/◌, ◌%◌, ◌^◌, ◌≤◌, ◌<◌}
+use Prim.Native.Nat.{ℕ, zero, suc, ◌+◌, ◌-◌, ◌*◌, ◌/◌, ◌^◌, ◌≤◌, ◌<◌}
 use mathlib.Core.Path.{◌≡◌, refl, sym, ap, ap₂, ◌∙◌, subst}
 use mathlib.Core.Bool.{Bool, true, false}
 use mathlib.Core.List.{List, map}
@@ -56,9 +56,6 @@ module _ (step : ℕ) (ws : List ℕ) where
         go (yes h) = quotient_yes (offset (get_or ws p 0)) (offset (get_or ws (p + 1) 0)) step (omega arith) (omega arith) s h ∙ sym (fall_yes h)
         go (no h) = quotient_no (offset (get_or ws p 0)) (offset (get_or ws (p + 1) 0)) step (omega arith) (omega arith) s (omega arith) ∙ sym (fall_no (omega arith))
 
-    pub fall_low : step ≤ 1 → (offset (get_or ws p 0) + (16777215 + step) - offset (get_or ws (p + 1) 0)) / 16777216 ≤ 1
-    fall_low s = subst (λ (x : ℕ). x ≤ 1) (sym (fall_is s)) fall_le
-
     fall_none : fall step ws p ≡ 0 → offset (get_or ws p 0) + step ≤ offset (get_or ws (p + 1) 0)
     fall_none e = go (dec_lt (offset (get_or ws (p + 1) 0)) (offset (get_or ws p 0) + step))
       where
@@ -84,8 +81,8 @@ alike_le ws p = go (eqb (coordinate (get_or ws p 0)) (coordinate (get_or ws (p +
     go true = omega arith
     go false = omega arith
 
-pub mark_le : (step weight : ℕ) (ws : List ℕ) (p : ℕ) → mark step weight ws p ≤ 1 + weight
-mark_le step weight ws p = omega (arith, fall_le step ws p, mul-le-mul_left weight (alike_le ws p), mul-one weight)
+pub mark_le : (step f a : ℕ) (ws : List ℕ) (p : ℕ) → mark step f a ws p ≤ f + a
+mark_le step f a ws p = omega (arith, mul-le-mul_left f (fall_le step ws p), mul-one f, mul-le-mul_left a (alike_le ws p), mul-one a)
 
 -- ---- what is counted at many places
 
@@ -257,35 +254,35 @@ module _ (n : ℕ) (ws : List ℕ) (some : 0 < length ws) where
 
 -- ---- both told of one number
 
-module _ (step weight : ℕ) (ws : List ℕ) where
-  pub marks_apart : (p k : ℕ) → total (mark step weight ws) p k ≡ total (fall step ws) p k + weight * total (alike ws) p k
+module _ (step f a : ℕ) (ws : List ℕ) where
+  pub marks_apart : (p k : ℕ) → total (mark step f a ws) p k ≡ f * total (fall step ws) p k + a * total (alike ws) p k
   unfolding total
-  marks_apart p zero = omega (arith, mul-zero weight)
-  marks_apart p (suc k) = omega (arith, marks_apart p k, mul-add weight (total (alike ws) p k) (alike ws (p + k)))
+  marks_apart p zero = omega (arith, mul-zero f, mul-zero a)
+  marks_apart p (suc k) = omega (arith, marks_apart p k, mul-add f (total (fall step ws) p k) (fall step ws (p + k)), mul-add a (total (alike ws) p k) (alike ws (p + k)))
 
-  -- they fit where the list is testable
-  pub marks_fit : (p k : ℕ) → k ≤ length ws → length ws * (1 + weight) < 2 ^ 64 → total (mark step weight ws) p k < 2 ^ 64
-  marks_fit p k h few = omega (arith, total_le (mark step weight ws) (1 + weight) (mark_le step weight ws) p k, mul-le-mul_right (1 + weight) h, few)
+  -- they fit where the list is countable
+  pub marks_fit : (p k : ℕ) → k ≤ length ws → length ws * (f + a) < 2 ^ 64 → total (mark step f a ws) p k < 2 ^ 64
+  marks_fit p k h few = omega (arith, total_le (mark step f a ws) (f + a) (mark_le step f a ws) p k, mul-le-mul_right (f + a) h, few)
 
-pub eight_fit : (weight k : ℕ) → 8 ≤ k → k * (1 + weight) < 2 ^ 64 → 8 * (1 + weight) < 2 ^ 64
-eight_fit weight k h few = omega (arith, mul-le-mul_right (1 + weight) h, few)
+pub eight_fit : (most k : ℕ) → 8 ≤ k → k * most < 2 ^ 64 → 8 * most < 2 ^ 64
+eight_fit most k h few = omega (arith, mul-le-mul_right most h, few)
 
--- without a weight only the falls are counted
-pub marks_none : (step : ℕ) (ws : List ℕ) (p k : ℕ) → total (mark step 0 ws) p k ≡ total (fall step ws) p k
-marks_none step ws p k = omega (arith, marks_apart step 0 ws p k, zero-mul (total (alike ws) p k))
+-- only the falls
+pub falls_alone : (step : ℕ) (ws : List ℕ) (p k : ℕ) → total (mark step 1 0 ws) p k ≡ total (fall step ws) p k
+falls_alone step ws p k = omega (arith, marks_apart step 1 0 ws p k, zero-mul (total (alike ws) p k))
 
-module _ (step : ℕ) (ws : List ℕ) (k : ℕ) (few : k < 4294967296) where
-  low : total (fall step ws) 0 k < 4294967296
-  low = omega (arith, total_le (fall step ws) 1 (fall_le step ws) 0 k, mul-one k)
-
-  pub marks_low : total (mark step 4294967296 ws) 0 k % 4294967296 ≡ total (fall step ws) 0 k
-  marks_low = omega (arith, marks_apart step 4294967296 ws 0 k, low)
-
-  pub marks_high : total (mark step 4294967296 ws) 0 k / 4294967296 ≡ total (alike ws) 0 k
-  marks_high = omega (arith, marks_apart step 4294967296 ws 0 k, low)
-
+-- one fall weighs more than all the places that are alike
+module _ (step : ℕ) (ws : List ℕ) (k : ℕ) (few : k < 16777216) where
   pub alike_few : total (alike ws) 0 k ≤ k
   alike_few = omega (arith, total_le (alike ws) 1 (alike_le ws) 0 k, mul-one k)
+
+  pub marks_many : 16777216 ≤ total (mark step 16777216 1 ws) 0 k → total (fall step ws) 0 k ≡ 0 → ⊥
+  marks_many h e = omega (arith, marks_apart step 16777216 1 ws 0 k, alike_few)
+
+  pub marks_few : total (mark step 16777216 1 ws) 0 k < 16777216 → (total (fall step ws) 0 k ≡ 0) × (total (mark step 16777216 1 ws) 0 k ≡ total (alike ws) 0 k)
+  marks_few h =
+      let none : total (fall step ws) 0 k ≡ 0 = omega (arith, marks_apart step 16777216 1 ws 0 k) in
+      (none, omega (arith, marks_apart step 16777216 1 ws 0 k, none))
 
 -- ---- all places, in two parts
 

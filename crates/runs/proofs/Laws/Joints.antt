@@ -4,24 +4,25 @@ use mathlib.Core.Path.{◌≡◌, refl, sym, ap, ap₂, ◌∙◌, subst}
 use mathlib.Core.Bool.{Bool, true, false, not, ◌&&◌}
 use mathlib.Core.List.{List, [], ◌∷◌, ◌++◌, map, append_assoc, append-nil}
 use native.Mathlib.Omega.{arith}
-use borrow.Author.Tests.{ne_eqb, lt-ltb}
+use borrow.Author.Tests.{eqb-true, ne_eqb, lt-ltb}
 use lib.ListN.{length, take, drop, get_or, replicate, length-append, length-replicate, replicate-append-replicate, drop_of_length-le, length-map}
 use lib.Seq.{take-append-add, ext_get_or}
 use lib.Dec.{ltb, eqb}
+use Rattle.base.specs.Tests.{◌when◌else◌}
 use Rattle.runs.specs.Words.{offset, coordinate, pack}
 use Rattle.runs.specs.Colours.{next, end_at, colours, starts, last_run, first_coord, last_coord}
 use Rattle.runs.specs.Orders.{most_vertices, steady, sharp}
 use Rattle.runs.specs.Inside.Lists.{Steady, Sharp}
 use Rattle.runs.specs.Reverse.{oriented}
 use Rattle.runs.specs.Rotate.{runs_at}
-use Rattle.runs.specs.Merge.{merge, merge_behind, unlike_neighbours}
-use Rattle.runs.specs.Append.{shifted, appendix, append_runs, joinable, bad_counts}
+use Rattle.runs.specs.Merge.{merge, merge_behind, unlike_behind}
+use Rattle.runs.specs.Append.{shifted, appendix, append_runs, joinable, bad_counts, skip, unmerged_runs}
 use Rattle.runs.proofs.Laws.Words.{offset_pack, coordinate_pack, pack_of}
-use Rattle.runs.proofs.Laws.Orders.{Up, StrictUp, up_cons, strict_cons, strict_le, run_begins, tail_up, next_le, end_le, last_cons, sharp_steady, sharp_yes, yes_steady}
+use Rattle.runs.proofs.Laws.Orders.{Up, StrictUp, up_cons, strict_cons, strict_le, run_begins, tail_up, next_le, end_le, last_cons, sharp_steady, sharp_yes, starts_zero, yes_steady}
 use Rattle.runs.proofs.Laws.Colours.{colours_append, steady_at}
 use Rattle.runs.proofs.Laws.Reverse.{oriented_sharp}
 use Rattle.runs.proofs.Laws.Lists.{get_or_behind}
-use Rattle.runs.proofs.Laws.Merge.{behind_colours, behind_first, behind_strict, behind_unlike, unlike_join, unlike_shifted}
+use Rattle.runs.proofs.Laws.Merge.{behind_colours, behind_first, behind_strict, behind_unlike, unlike_shifted}
 use Rattle.runs.proofs.Laws.Append.{skip_yes, skip_no, Counts, counts, Joinable, joinable_is}
 
 -- ---- the junction
@@ -87,8 +88,37 @@ colours_more k m w [] l =
     append-nil (replicate (k + m - offset w) (coordinate w)) ∙ ap (λ (x : ℕ). replicate x (coordinate w)) e ∙ sym (replicate-append-replicate (k - offset w) m (coordinate w)) ∙ ap (λ (x : List ℕ). x ++ replicate m (coordinate w)) (sym (append-nil (replicate (k - offset w) (coordinate w))))
 colours_more k m w (v ∷ ws) l = ap (λ (x : List ℕ). replicate (offset v - offset w) (coordinate w) ++ x) (colours_more k m v ws (subst (λ (x : ℕ). offset x ≤ k) (last_cons w v ws) l)) ∙ sym (append_assoc (replicate (offset v - offset w) (coordinate w)) (colours k (v ∷ ws)) (replicate m (coordinate (last_run (v ∷ ws))))) ∙ ap (λ (x : ℕ). (replicate (offset v - offset w) (coordinate w) ++ colours k (v ∷ ws)) ++ replicate m (coordinate x)) (sym (last_cons w v ws))
 
+-- runs that behind a run of coordinate c have the colours of os
+record Colouring (b c : ℕ) (os ys : List ℕ) : Type 0 where
+  pub up : Up b ys
+  pub same : replicate (next b ys - 0) c ++ colours b ys ≡ colours b os
+
+-- merged ones, and those without the first where that has coordinate c
+merged_colouring : (b c : ℕ) (os : List ℕ) → Sharp b os → Colouring b c os (merge_behind c os)
+merged_colouring b c os s =
+    let u = strict_le b os s.up in
+    let first : next b os - 0 ≡ 0 = omega (arith, starts_zero b os (sharp_steady b os s) s.some) in
+    record { up = strict_le b (merge_behind c os) (behind_strict b c os s.up).1; same = (behind_colours b 0 c os u (omega arith)).1 ∙ ap (λ (x : ℕ). replicate x c ++ colours b os) first }
+
+unmerged_colouring : (b c : ℕ) (os : List ℕ) → Sharp b os → Colouring b c os (drop (skip c os) os)
+unfolding skip ◌when◌else◌ colours
+unmerged_colouring b c [] s = absurd (omega (arith, s.some))
+unmerged_colouring b c (o ∷ os) s = go (eqb c (coordinate o)) refl
+  where
+    up : Up b (o ∷ os)
+    up = strict_le b (o ∷ os) s.up
+
+    first : offset o - 0 ≡ 0
+    first = omega (arith, s.first)
+
+    go : (t : Bool) → eqb c (coordinate o) ≡ t → Colouring b c (o ∷ os) (drop (◌when◌else◌ {A = ℕ} 1 t 0) (o ∷ os))
+    go true e =
+        let n : next b os - 0 ≡ next b os - offset o = omega (arith, s.first) in
+        record { up = tail_up b o os up; same = ap₂ (λ (x y : ℕ). replicate x y ++ colours b os) n (eqb-true c (coordinate o) e) }
+    go false e = record { up = up; same = ap (λ (x : ℕ). replicate x c ++ colours b (o ∷ os)) first }
+
 -- the colours of appended runs: the output's without the last vertex, then the oriented piece's
-module _ (a b w o : ℕ) (ws os : List ℕ) (out-steady : Steady a (w ∷ ws)) (last : offset (last_run (w ∷ ws)) < a) (piece-sharp : Sharp b (o ∷ os)) (small : a + b - 1 < 16777216) where
+module _ (a b w : ℕ) (ws os m : List ℕ) (out-steady : Steady a (w ∷ ws)) (last : offset (last_run (w ∷ ws)) < a) (put : Colouring b (last_coord (w ∷ ws)) os m) (small : a + b - 1 < 16777216) where
   less : colours (a - 1) (w ∷ ws) ≡ take (a - 1) (colours a (w ∷ ws))
   less =
       let r = colours_less a (a - 1) w ws out-steady.up (omega arith) (omega arith) in
@@ -98,38 +128,34 @@ module _ (a b w o : ℕ) (ws os : List ℕ) (out-steady : Steady a (w ∷ ws)) (
   abbrev c : ℕ
   c = last_coord (w ∷ ws)
 
-  abbrev m : List ℕ
-  m = merge_behind c (o ∷ os)
-
-  all : colours (a + b - 1) ((w ∷ ws) ++ shifted (a - 1) m) ≡ take (a - 1) (colours a (w ∷ ws)) ++ colours b (o ∷ os)
+  all : colours (a + b - 1) ((w ∷ ws) ++ shifted (a - 1) m) ≡ take (a - 1) (colours a (w ∷ ws)) ++ colours b os
   all =
       let e : a + b - 1 ≡ b + (a - 1) = omega arith in
-      let r = behind_colours b 0 c (o ∷ os) (strict_le b (o ∷ os) piece-sharp.up) (omega arith) in
-      let s = colours_shifted b (a - 1) m (strict_le b m (behind_strict b c (o ∷ os) piece-sharp.up).1) (omega arith) in
+      let s = colours_shifted b (a - 1) m put.up (omega arith) in
       let z : next (b + (a - 1)) (shifted (a - 1) m) ≡ a - 1 + (next b m - 0) = s.0 ∙ omega arith in
-      let f : next b (o ∷ os) - 0 ≡ 0 = omega (arith, piece-sharp.first) in
       ap (λ (x : ℕ). colours x ((w ∷ ws) ++ shifted (a - 1) m)) e
       ∙ colours_append (b + (a - 1)) (w ∷ ws) (shifted (a - 1) m)
       ∙ ap₂ (λ (x y : List ℕ). x ++ y) (ap (λ (x : ℕ). colours x (w ∷ ws)) z ∙ colours_more (a - 1) (next b m - 0) w ws (omega arith) ∙ ap (λ (x : List ℕ). x ++ replicate (next b m - 0) c) less) s.1
       ∙ append_assoc (take (a - 1) (colours a (w ∷ ws))) (replicate (next b m - 0) c) (colours b m)
-      ∙ ap (λ (x : List ℕ). take (a - 1) (colours a (w ∷ ws)) ++ x) (r.1 ∙ ap (λ (x : ℕ). replicate x c ++ colours b (o ∷ os)) f)
+      ∙ ap (λ (x : List ℕ). take (a - 1) (colours a (w ∷ ws)) ++ x) put.same
 
 -- behind a nonempty output whose last offset is below its count: its colours without the last vertex, then the piece's
-pub colours_joined : (a b : ℕ) (xs os : List ℕ) → Steady a xs → 0 < length xs → offset (last_run xs) < a → Sharp b os → a + b - 1 < 16777216
-    → colours (a + b - 1) (xs ++ appendix (last_coord xs) a os) ≡ take (a - 1) (colours a xs) ++ colours b os
-unfolding appendix
-colours_joined a b [] os s h l t small = absurd (omega arith)
-colours_joined a b (w ∷ ws) [] s h l t small = absurd (none t.some)
-  where
-    none : 0 < 0 → ⊥
-    none k = omega arith
-colours_joined a b (w ∷ ws) (o ∷ os) s h l t small = all a b w o ws os s l t small
+colours_joined : (a b : ℕ) (xs os ys : List ℕ) → Steady a xs → 0 < length xs → offset (last_run xs) < a → Colouring b (last_coord xs) os ys → a + b - 1 < 16777216
+    → colours (a + b - 1) (xs ++ shifted (a - 1) ys) ≡ take (a - 1) (colours a xs) ++ colours b os
+colours_joined a b [] os ys s h l put small = absurd (omega arith)
+colours_joined a b (w ∷ ws) os ys s h l put small = all a b w ws os ys s l put small
 
-pub colours_appended : (out : List ℕ) (a : ℕ) (piece : List ℕ) (b : ℕ) (r : Bool) → Steady a out → 0 < length out → offset (last_run out) < a → Sharp b piece → a + b - 1 < 16777216
-    → colours (a + b - 1) (append_runs out a piece b r) ≡ take (a - 1) (colours a out) ++ colours b (oriented r b piece)
-unfolding append_runs
-colours_appended out a piece b r s h l p small =
-    colours_joined a b out (oriented r b piece) s h l (oriented_sharp r b piece (omega arith) p) small
+module _ (out : List ℕ) (a : ℕ) (piece : List ℕ) (b : ℕ) (r : Bool) (s : Steady a out) (h : 0 < length out) (l : offset (last_run out) < a) (p : Sharp b piece) (small : a + b - 1 < 16777216) where
+  way : Sharp b (oriented r b piece)
+  way = oriented_sharp r b piece (omega arith) p
+
+  pub colours_appended : colours (a + b - 1) (append_runs out a piece b r) ≡ take (a - 1) (colours a out) ++ colours b (oriented r b piece)
+  unfolding append_runs appendix
+  colours_appended = colours_joined a b out (oriented r b piece) (merge_behind (last_coord out) (oriented r b piece)) s h l (merged_colouring b (last_coord out) (oriented r b piece) way) small
+
+  pub colours_unmerged : colours (a + b - 1) (unmerged_runs out a piece b r) ≡ take (a - 1) (colours a out) ++ colours b (oriented r b piece)
+  unfolding unmerged_runs
+  colours_unmerged = colours_joined a b out (oriented r b piece) (drop (skip (last_coord out) (oriented r b piece)) (oriented r b piece)) s h l (unmerged_colouring b (last_coord out) (oriented r b piece) way) small
 
 -- ---- the list that append leaves is one that a piece can stand behind
 
@@ -251,14 +277,10 @@ sharp_joined a b w o c ws os s t small =
     pos : 0 < a
     pos = let h : end_at a (w ∷ ws) 0 ≤ a = end_le a (w ∷ ws) 0 (sharp_steady a (w ∷ ws) s).up in let g : offset w < end_at a (w ∷ ws) 0 = s.up 0 (omega arith) in omega arith
 
--- behind an output without equal neighbours there are none
-pub unlike_appended : (out : List ℕ) (a : ℕ) (piece : List ℕ) (b : ℕ) (r : Bool) → 0 < length out → unlike_neighbours out ≡ true → Sharp b piece → b + (a - 1) < 16777216 → unlike_neighbours (append_runs out a piece b r) ≡ true
-unfolding append_runs appendix
-unlike_appended out a piece b r some e s small =
-    let os : List ℕ = oriented r b piece in
-    let m : List ℕ = merge_behind (last_coord out) os in
-    let t = oriented_sharp r b piece (omega arith) s in
-    unlike_join out (shifted (a - 1) m) some e (unlike_shifted b (a - 1) small (last_coord out) m (strict_le b m (behind_strict b (last_coord out) os t.up).1) ∙ behind_unlike (last_coord out) os)
+-- what is put behind a run has no equal neighbours, that run with it
+pub unlike_appendix : (c a b : ℕ) (os : List ℕ) → Sharp b os → b + (a - 1) < 16777216 → unlike_behind c (appendix c a os) ≡ true
+unfolding appendix
+unlike_appendix c a b os s small = unlike_shifted b (a - 1) small c (merge_behind c os) (strict_le b (merge_behind c os) (behind_strict b c os s.up).1) ∙ behind_unlike c os
 
 -- a sharp list is its starts with the colours there
 pub rebuild : (n : ℕ) (ws : List ℕ) → Sharp n ws → runs_at (colours n ws) (starts ws) ≡ ws

@@ -96,9 +96,6 @@ pub record Filled {A : Type 0} (xs from out : List A) (i : ℕ) : Type 0 where
   pub done : take i out ≡ take i xs
   pub kept : drop i out ≡ drop i from
 
-pub fill_start : {A : Type 0} (xs from : List A) → Filled xs from from 0
-fill_start xs from = record { long = refl; done = refl; kept = refl }
-
 pub fill_more : {A : Type 0} (xs from out : List A) (i : ℕ) (x z : A) → i < length xs → i < length out → x ≡ get_or xs i z → Filled xs from out i → Filled xs from (set out i x) (i + 1)
 fill_more {A = A} xs from out i x z h g e f =
     record {

@@ -1,5 +1,5 @@
 -- Laws of lists of which equal neighbours are merged.
-use Prim.Native.Nat.{ℕ, suc, ◌+◌, ◌-◌, ◌/◌, ◌%◌, ◌≤◌, ◌<◌}
+use Prim.Native.Nat.{ℕ, suc, ◌+◌, ◌-◌, ◌≤◌, ◌<◌}
 use mathlib.Core.Path.{◌≡◌, refl, sym, ap, ap₂, ◌∙◌, subst}
 use mathlib.Core.Bool.{Bool, true, false, not, ◌&&◌}
 use mathlib.Core.List.{List, [], ◌∷◌, ◌++◌, append_assoc}
@@ -20,13 +20,13 @@ use Rattle.runs.specs.Merge.{unless, merge_behind, merge, merged_count, unlike_b
 use Rattle.runs.specs.Append.{shift, shifted, skip}
 use Rattle.runs.specs.Rotate.{merged}
 use Rattle.runs.specs.Reverse.{reverse_runs, oriented}
-use Rattle.runs.specs.Inside.Lists.{Sharp}
+use Rattle.runs.specs.Inside.Lists.{Sharp, Steady}
 use Rattle.runs.specs.Inside.Cursor.{begins, merged_from}
 use Rattle.runs.specs.Inside.Falls.{alike, fall, framed, mark, total}
 use Rattle.runs.specs.Inside.Pieces.{drops_first}
 use Rattle.runs.proofs.Laws.Words.{coordinate_pack, pack_of}
-use Rattle.runs.proofs.Laws.Orders.{Up, StrictUp, strict_cons, tail_up, next_le, last_cons, sharp_yes, strict_few}
-use Rattle.runs.proofs.Laws.Falls.{alike_few, marks_high, marks_low, sharp_spaced, spaced_framed, spaced_unframed, total_front, total_same}
+use Rattle.runs.proofs.Laws.Orders.{Up, StrictUp, strict_cons, tail_up, up_cons, next_le, last_cons, sharp_yes, strict_offsets}
+use Rattle.runs.proofs.Laws.Falls.{alike_few, marks_few, marks_many, sharp_spaced, spaced_framed, spaced_unframed, total_front, total_same}
 use Rattle.runs.proofs.Laws.Reverse.{length_reversed, oriented_long}
 use Rattle.runs.proofs.Laws.Merged.{begins_later, other_on, runs_merged, same_on}
 
@@ -95,7 +95,27 @@ unfolding merge colours
 merge_colours n [] u = refl
 merge_colours n (w ∷ ws) u = (behind_colours n (offset w) (coordinate w) ws (tail_up n w ws u) (u 0 (omega arith))).1
 
--- ---- what is merged of a sharp list is sharp, and is the runs of its colours
+-- ---- what is merged of a steady list is steady; of a sharp one sharp, and the runs of its colours
+
+behind_up : (n c : ℕ) (ws : List ℕ) → Up n ws → Up n (merge_behind c ws)
+unfolding merge_behind
+behind_up n c [] u = u
+behind_up n c (w ∷ ws) u = go (eqb c (coordinate w)) (behind_colours n (offset w) (coordinate w) ws (tail_up n w ws u) (u 0 (omega arith))).0 (behind_up n (coordinate w) ws (tail_up n w ws u))
+  where
+    m : List ℕ
+    m = merge_behind (coordinate w) ws
+
+    go : (t : Bool) → offset w ≤ next n m → Up n m → Up n (unless t w m)
+    go true h r = r
+    go false h r = up_cons n w m h r
+
+pub merge_steady : (n : ℕ) (ws : List ℕ) → Steady n ws → Steady n (merge ws)
+unfolding merge
+merge_steady n [] s = s
+merge_steady n (w ∷ ws) s =
+    let t = tail_up n w ws s.up in
+    let m : List ℕ = merge_behind (coordinate w) ws in
+    record { first = s.first; up = up_cons n w m (behind_colours n (offset w) (coordinate w) ws t (s.up 0 (omega arith))).0 (behind_up n (coordinate w) ws t) }
 
 pub behind_strict : (n c : ℕ) (ws : List ℕ) → StrictUp n ws → (next n ws ≤ next n (merge_behind c ws)) × StrictUp n (merge_behind c ws)
 unfolding merge_behind
@@ -380,30 +400,29 @@ module _ (n : ℕ) (ws : List ℕ) where
       go true q h = (q, cc)
       go false q h = let z : ◌≡◌ {A = ℕ} 0 1 = cc in absurd (omega arith)
 
-  -- a list of more runs than vertices isn't sharp
-  pub too_many : n < length ws → sharp n ws ≡ false
-  too_many h = go (sharp n ws) refl
+  -- a list of more runs than there are offsets isn't sharp
+  pub too_many : 16777216 < length ws → sharp n ws ≡ false
+  too_many h = go ws h (sharp n ws) refl
     where
-      go : (t : Bool) → sharp n ws ≡ t → sharp n ws ≡ false
-      go true e = absurd (omega (arith, strict_few n ws (sharp_yes n ws e).up))
-      go false e = e
+      go : (ws : List ℕ) → 16777216 < length ws → (t : Bool) → sharp n ws ≡ t → sharp n ws ≡ false
+      go [] h t e = absurd (omega arith)
+      go (w ∷ ws) h true e = absurd (omega (arith, strict_offsets n w ws (sharp_yes n (w ∷ ws) e).up))
+      go (w ∷ ws) h false e = e
 
   module _ (some : 0 < length ws) where
     pub unframed_count : framed 1 n ws ≡ false → ◌≡◌ {A = Option ℕ} None (merged_count n ws)
     unframed_count e = count_none (sharp_spaced n ws some ∙ sym (spaced_unframed 1 n ws e))
 
-    module _ (frame : framed 1 n ws ≡ true) (few : length ws ≤ n) (small : n < 4294967296) (marks : ℕ) (are : marks ≡ total (mark 1 4294967296 ws) 0 (length ws - 1)) where
-      low : marks % 4294967296 ≡ total (fall 1 ws) 0 (length ws - 1)
-      low = ap (λ (m : ℕ). m % 4294967296) are ∙ marks_low 1 ws (length ws - 1) (omega arith)
+    module _ (frame : framed 1 n ws ≡ true) (few : length ws ≤ 16777216) (marks : ℕ) (are : marks ≡ total (mark 1 16777216 1 ws) 0 (length ws - 1)) where
+      pub falling_count : 16777216 ≤ marks → ◌≡◌ {A = Option ℕ} None (merged_count n ws)
+      falling_count h = count_none (sharp_spaced n ws some ∙ sym (spaced_framed 1 n ws frame) ∙ ne_eqb _ _ (marks_many 1 ws (length ws - 1) (omega arith) (omega arith)))
 
-      high : marks / 4294967296 ≡ total (alike ws) 0 (length ws - 1)
-      high = ap (λ (m : ℕ). m / 4294967296) are ∙ marks_high 1 ws (length ws - 1) (omega arith)
+      module _ (h : marks < 16777216) where
+        told : (total (fall 1 ws) 0 (length ws - 1) ≡ 0) × (total (mark 1 16777216 1 ws) 0 (length ws - 1) ≡ total (alike ws) 0 (length ws - 1))
+        told = marks_few 1 ws (length ws - 1) (omega arith) (omega arith)
 
-      pub alike_inside : marks / 4294967296 ≤ length ws
-      alike_inside = omega (arith, high, alike_few 1 ws (length ws - 1) (omega arith))
+        pub alike_inside : marks ≤ length ws
+        alike_inside = omega (arith, told.1, alike_few 1 ws (length ws - 1) (omega arith))
 
-      pub falling_count : (marks % 4294967296 ≡ 0 → ⊥) → ◌≡◌ {A = Option ℕ} None (merged_count n ws)
-      falling_count e = count_none (sharp_spaced n ws some ∙ sym (spaced_framed 1 n ws frame) ∙ ne_eqb _ _ (λ q. e (low ∙ q)))
-
-      pub sharp_count : marks % 4294967296 ≡ 0 → ◌≡◌ {A = Option ℕ} (Some (length ws - marks / 4294967296)) (merged_count n ws)
-      sharp_count e = count_some (length ws - marks / 4294967296) (sharp_spaced n ws some ∙ sym (spaced_framed 1 n ws frame) ∙ eq-eqb _ _ (sym low ∙ e)) (omega (arith, high, merge_long ws))
+        pub sharp_count : ◌≡◌ {A = Option ℕ} (Some (length ws - marks)) (merged_count n ws)
+        sharp_count = count_some (length ws - marks) (sharp_spaced n ws some ∙ sym (spaced_framed 1 n ws frame) ∙ eq-eqb _ _ told.0) (omega (arith, told.1, merge_long ws))

@@ -35,9 +35,6 @@ use Rattle.runs.proofs.Laws.Words.{coordinate_pack, offset_pack, pack_of}
 pub moved_below : (r : Bool) (n : ℕ) (ws : List ℕ) (i k : ℕ) → Taken n ws → n + k < 16777216 → i < length ws → offset (get_or (oriented r n ws) i 0) + k < 16777216
 moved_below r n ws i k t small h = omega (arith, offset_le n (oriented r n ws) i (omega (arith, oriented_long r n ws)) (oriented_steady r n ws t.small t.list).up)
 
-pub moved_run : (k w : ℕ) → w + k ≡ shift k w
-moved_run k w = omega arith
-
 -- from the other end, a run that is not the first begins where the one before it ends
 pub backed_is : (n k : ℕ) (ws : List ℕ) (i : ℕ) → Taken n ws → n + k < 16777216 → 0 < i → i < length ws
     → pack (n + k - offset (get_or ws (length ws - 1 - i + 1) 0)) (coordinate (get_or ws (length ws - 1 - i) 0)) ≡ shift k (get_or (reverse_runs n ws) i 0)
@@ -244,10 +241,6 @@ module _ (s : Shifted) (out : List ℕ) (used total first : ℕ) (f : FillsAll s
       rw same_list
       (ap (λ (l : List ℕ). merged_behind s used out ++ l)
       (drop-set-lt (length (merged_behind s used out)) out used first (omega (arith, one_more, ap length (split os' (last_coord (take used out)) some' apart)))))
-
--- where it does, nothing is put
-pub drops_fills : (s : Shifted) (out : List ℕ) (used total : ℕ) → FillsAll s out used true total → FillsRest s out used total
-drops_fills s out used total f = record { fills = f.fills; used_some = f.used_some; meets = eqb-true _ _ (sym f.told) }
 
 -- ---- a merged list in the front of an output, behind its own first run
 

@@ -155,6 +155,14 @@ strict_few n (w ∷ ws) u =
     let b : next n ws + length ws ≤ n = strict_few n ws (λ i l. u (suc i) (omega arith)) in
     omega arith
 
+-- nor than there are offsets
+pub strict_offsets : (n w : ℕ) (ws : List ℕ) → StrictUp n (w ∷ ws) → offset w + length (w ∷ ws) ≤ 16777216
+strict_offsets n w [] u = omega arith
+strict_offsets n w (v ∷ ws) u =
+    let a : offset w < offset v = u 0 (omega arith) in
+    let b : offset v + length (v ∷ ws) ≤ 16777216 = strict_offsets n v ws (λ i l. u (suc i) (omega arith)) in
+    omega arith
+
 pub last_cons : (w v : ℕ) (ws : List ℕ) → last_run (w ∷ v ∷ ws) ≡ last_run (v ∷ ws)
 last_cons w v ws = let e : suc (suc (length ws)) - 1 ≡ suc (suc (length ws) - 1) = omega arith in ap (λ (i : ℕ). get_or (w ∷ v ∷ ws) i 0) e
 

@@ -12,9 +12,9 @@ fall step ws p = 1 when ltb (offset (get_or ws (p + 1) 0)) (offset (get_or ws p 
 unfoldable pub alike : List ℕ → ℕ → ℕ
 alike ws p = 1 when eqb (coordinate (get_or ws p 0)) (coordinate (get_or ws (p + 1) 0)) else 0
 
--- both in one number: a place where neighbours are alike weighs `weight`
-abbrev pub mark : ℕ → ℕ → List ℕ → ℕ → ℕ
-mark step weight ws p = fall step ws p + weight * alike ws p
+-- both in one number: they weigh f and a
+abbrev pub mark : ℕ → ℕ → ℕ → List ℕ → ℕ → ℕ
+mark step f a ws p = f * fall step ws p + a * alike ws p
 
 -- what f gives of eight places from p on, each `apart` behind the one before
 abbrev pub of_eight : (ℕ → ℕ) → ℕ → ℕ → ℕ
@@ -39,5 +39,5 @@ pub record Testable (step : ℕ) (ws : List ℕ) : Type 0 where
   pub few : length ws < 2 ^ 61
 
 -- its marks are together a number of 64 bits
-abbrev pub Countable : ℕ → List ℕ → Type 0
-Countable weight ws = length ws * (1 + weight) < 2 ^ 64
+abbrev pub Countable : ℕ → ℕ → List ℕ → Type 0
+Countable f a ws = length ws * (f + a) < 2 ^ 64

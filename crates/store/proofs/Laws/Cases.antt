@@ -352,6 +352,8 @@ cases =
     ∷ while_open
     ∷ merging
     ∷ merging_back
+    -- the later piece from its other end
+    ∷ cut 3 4 25 ((joins 3 5 false fine, told 5) ∷ (joins 4 4 true fine, told 8) ∷ (closes 5 line, told 0) ∷ shows_5 1 ∷ shows_07 2 ∷ shows_07 5 ∷ shows_5 6 ∷ [])
     -- one place less for the open runs or for the held piece, of a first piece, either way, and of a later one
     ∷ cut 1 4 17 ((joins 3 5 false fine, refused 3) ∷ (joins 3 5 true fine, refused 3) ∷ (joins 3 5 false (pack 0 2 ∷ pack 1 2 ∷ []), told 5) ∷ [])
     ∷ cut 2 3 17 ((joins 3 5 false fine, refused 3) ∷ (joins 3 5 true fine, refused 3) ∷ [])

@@ -21,7 +21,6 @@ use Rattle.codec.specs.Records.{bad_colors, file_of}
 use Rattle.codec.proofs.Promise.{IsSet, promise}
 use Rattle.runs.specs.Words.{coordinate_of, place_of}
 use Rattle.runs.proofs.Laws.Words.{coordinate_of_lem}
-use Rattle.runs.specs.Bytes.{found}
 use Rattle.store.specs.Demand.{Demand3, LentCall, RecordsKept, RunsMerged, Seen, ShowsSent, UnitigsKept, accepted_from, all_seen, as_seen, out_of, record_file, seen, sent, set_for, sets_in, showing, store_run, table_of}
 use Rattle.store.specs.Once.{Item, item_call, update_of, updates_from}
 use Rattle.store.specs.Plain.{Call, Plain, PlainCell, SharedLengths, Unitig, Update, Verdict, accept, accepted, coord_at, ids_at, no_unitig, no_vertex, plain_fresh, plain_run, plain_show, plain_step, plain_update, refusal, refuse, repeat, show, shown, update, verdict}
@@ -35,7 +34,7 @@ use Rattle.store.proofs.Laws.Totals.{open_merged, run_total}
 use Rattle.store.proofs.Laws.Rep.{CellRep, Rep, SharedRep, Size, unitig_runs}
 use Rattle.store.proofs.Laws.Shows.{good_here, merged_are, named_narrow}
 use Rattle.store.proofs.Laws.Trace.{Ran, run_ok}
-use Rattle.store.proofs.Laws.Unitigs.{name_of, runs_merged}
+use Rattle.store.proofs.Laws.Unitigs.{name_of}
 use Rattle.store.proofs.Laws.Rep as rep
 
 -- ---- an accepted start

@@ -33,7 +33,7 @@ use Rattle.runs.specs.Inside.Pieces.{drops_first}
 use Rattle.runs.proofs.Laws.Append.{length_shifted}
 use Rattle.runs.proofs.Laws.Merge.{behind_drops, merge_oriented_long}
 use Rattle.runs.proofs.Laws.Joints.{sharp_joinable}
-use Rattle.runs.proofs.Laws.Orders.{sharp_yes, steady_sharp}
+use Rattle.runs.proofs.Laws.Orders.{steady_sharp}
 use Rattle.runs.proofs.Laws.Reverse.{oriented_long}
 use Rattle.store.specs.Altered.{bad_current, bad_vertices}
 use Rattle.store.specs.Filed.{unnamed}
@@ -95,9 +95,6 @@ new_behind m n back old piece merged few some e meet =
     let d = behind_drops (last_coord old) os (omega (arith, oriented_long back n piece)) in
     let t : from_bool (drops_first (last_coord old) os) ≡ 1 = ap from_bool (eq-eqb (last_coord old) (first_coord os) meet) in
     length_shifted (m - 1) (merge_behind (last_coord old) os) ∙ omega (arith, d, t, e, merge_oriented_long back n piece (omega arith))
-
-pub some_runs : (r : Bool) (n : ℕ) (piece : List ℕ) → r ≡ sharp n piece → not r ≡ false → 0 < length piece
-some_runs r n piece e h = (sharp_yes n piece (sym e ∙ not-false r h)).some
 
 -- ---- what is known where join may go
 

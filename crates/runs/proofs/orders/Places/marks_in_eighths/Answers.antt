@@ -9,16 +9,16 @@ use Rattle.runs.proofs.orders.Places.marks_in_eighths.Goals as goal
 pub sum-requires-clause-fits : goal.sum-requires-clause-fits
 sum-requires-clause-fits g c =
     let ws = g.R.Runs.list c.args.self.now.runs in
-    let f : ℕ → ℕ = mark c.args.self.now.step g.row.WEIGHT ws in
+    let f : ℕ → ℕ = mark c.args.self.now.step g.row.FALL g.row.ALIKE ws in
     let q = c.args.eighth in
     fits_from_yields_list c.map.result _
     (YieldsList-from_map _ (of_eight f q) (YieldsList-at c.map.ensures.source (YieldsList-from_range 0 q q (cc) (omega arith))) c.map.ensures.closure (λ x r q k. search (rules, tests)))
-    (omega (arith, eighths_sum f q, marks_fit c.args.self.now.step g.row.WEIGHT ws 0 (8 * q) (omega arith) c.requires.1))
+    (omega (arith, eighths_sum f q, marks_fit c.args.self.now.step g.row.FALL g.row.ALIKE ws 0 (8 * q) (omega arith) c.requires.1))
 
 pub returns : goal.returns
 returns g c =
     let ws = g.R.Runs.list c.args.self.now.runs in
-    let f : ℕ → ℕ = mark c.args.self.now.step g.row.WEIGHT ws in
+    let f : ℕ → ℕ = mark c.args.self.now.step g.row.FALL g.row.ALIKE ws in
     let q = c.args.eighth in
     sum_from_yields_List c.map.result _ c.sum.ensures.ran
     (YieldsList-from_map _ (of_eight f q) (YieldsList-at c.map.ensures.source (YieldsList-from_range 0 q q (cc) (omega arith))) c.map.ensures.closure (λ x r q k. search (rules, tests)))
