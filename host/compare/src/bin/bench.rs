@@ -883,8 +883,8 @@ leaves all lent memory as it was, so a call tests everything before it writes an
 and writes as it goes. \"Tests\" is the same call with no space for its result: it makes every test and is refused (3); reverse in place and make
 index, which test space first or not at all, are refused at their last run (6) or record (4) instead.
 A set with more than 1,024 ids coded as distances is decoded once to test and once to fill; a set of 136 colours or more
-is measured before its length prefix can be written; make index reads each prefix twice; a piece is tested for sharpness
-before it is appended.
+is measured before its length prefix can be written; make index reads each prefix twice; a piece is tested for sharpness,
+and its equal neighbours are counted, before it is appended.
 
 {}",
         processor(),
