@@ -42,14 +42,14 @@ impl Shifted<'_> {
         requires { FillsRest self.now out.old used total }
         ensures { out.new ≡ over (merged_behind self.now used out.old) out.old }
     {
-        let mut before = out[used - 1];
+        let mut previous = out[used - 1];
         let mut end = used;
         let mut i = 1;
         while end < total {
             let run = self.run_behind(i);
             out[end] = run;
-            end += usize::from(words::coordinate(run) != words::coordinate(before));
-            before = run;
+            end += usize::from(words::coordinate(run) != words::coordinate(previous));
+            previous = run;
             i += 1;
         }
     }

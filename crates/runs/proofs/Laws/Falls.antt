@@ -20,7 +20,7 @@ use Rattle.runs.specs.Words.{offset, coordinate}
 use Rattle.runs.specs.Colours.{next, end_at}
 use Rattle.runs.specs.Orders.{steady, sharp}
 use Rattle.runs.specs.Inside.Falls.{alike, fall, framed, mark, of_eight, spaced, total}
-use Rattle.runs.proofs.Laws.Orders.{run_begins, steady_yes, yes_steady, sharp_yes, yes_sharp}
+use Rattle.runs.proofs.Laws.Orders.{UpBy, run_begins, steady_yes, yes_steady, sharp_yes, yes_sharp}
 
 -- ---- one place
 
@@ -188,16 +188,13 @@ module _ (f : ℕ → ℕ) where
 -- ---- steady and sharp lists: each run begins `step` before it ends
 
 module _ (step n : ℕ) (ws : List ℕ) (some : 0 < length ws) where
-  abbrev pub UpBy : Type 0
-  UpBy = (i : ℕ) → i < length ws → offset (get_or ws i 0) + step ≤ end_at n ws i
-
   ends_next : (i : ℕ) → i + 1 < length ws → end_at n ws i ≡ offset (get_or ws (i + 1) 0)
   ends_next i h = run_begins n ws (suc i) (omega arith) ∙ ap (λ (k : ℕ). offset (get_or ws k 0)) (sym (add-one i))
 
   ends_last : (i : ℕ) → length ws ≤ i + 1 → end_at n ws i ≡ n
   ends_last i h = ap (next n) (drop_of_length-le ws {i = suc i} (omega arith))
 
-  pub none_up : total (fall step ws) 0 (length ws - 1) ≡ 0 → offset (get_or ws (length ws - 1) 0) + step ≤ n → UpBy
+  pub none_up : total (fall step ws) 0 (length ws - 1) ≡ 0 → offset (get_or ws (length ws - 1) 0) + step ≤ n → UpBy step n ws
   none_up e l i h = go (dec_lt (i + 1) (length ws))
     where
       go : Dec (i + 1 < length ws) → offset (get_or ws i 0) + step ≤ end_at n ws i
@@ -208,22 +205,22 @@ module _ (step n : ℕ) (ws : List ℕ) (some : 0 < length ws) where
           let b : end_at n ws i ≡ n = ends_last i (omega arith) in
           omega arith
 
-  pub up_none : UpBy → total (fall step ws) 0 (length ws - 1) ≡ 0
+  pub up_none : UpBy step n ws → total (fall step ws) 0 (length ws - 1) ≡ 0
   up_none u = in_none (fall step ws) (length ws - 1) (λ i h. fall_no step ws i (subst (λ (x : ℕ). offset (get_or ws i 0) + step ≤ x) (ends_next i (omega arith)) (u i (omega arith))))
 
-  pub up_last : UpBy → offset (get_or ws (length ws - 1) 0) + step ≤ n
+  pub up_last : UpBy step n ws → offset (get_or ws (length ws - 1) 0) + step ≤ n
   up_last u = subst (λ (x : ℕ). offset (get_or ws (length ws - 1) 0) + step ≤ x) (ends_last (length ws - 1) (omega arith)) (u (length ws - 1) (omega arith))
 
 -- what `spaced` says
 module _ (step n : ℕ) (ws : List ℕ) (some : 0 < length ws) where
-  spaced_yes : spaced step n ws ≡ true → (offset (get_or ws 0 0) ≡ 0) × UpBy step n ws some
+  spaced_yes : spaced step n ws ≡ true → (offset (get_or ws 0 0) ≡ 0) × UpBy step n ws
   unfolding spaced framed
   spaced_yes e =
       let a = and_true _ _ e in
       let b = and_true _ _ a.0 in
       (eqb-true _ _ b.0, none_up step n ws some (eqb-true _ _ a.1) (leb-true _ _ b.1))
 
-  yes_spaced : offset (get_or ws 0 0) ≡ 0 → UpBy step n ws some → spaced step n ws ≡ true
+  yes_spaced : offset (get_or ws 0 0) ≡ 0 → UpBy step n ws → spaced step n ws ≡ true
   unfolding spaced framed
   yes_spaced f u = and_both _ _ (and_both _ _ (eq-eqb _ _ f) (le-leb _ _ (up_last step n ws some u))) (eq-eqb _ _ (up_none step n ws some u))
 

@@ -25,7 +25,7 @@ use Rattle.runs.specs.Inside.Cursor.{begins, merged_from}
 use Rattle.runs.specs.Inside.Falls.{alike, fall, framed, mark, total}
 use Rattle.runs.specs.Inside.Pieces.{drops_first}
 use Rattle.runs.proofs.Laws.Words.{coordinate_pack, pack_of}
-use Rattle.runs.proofs.Laws.Orders.{Up, StrictUp, strict_cons, tail_up, up_cons, next_le, last_cons, sharp_yes, strict_offsets}
+use Rattle.runs.proofs.Laws.Orders.{Up, UpBy, StrictUp, first_up, tail_up, next_le, last_cons, sharp_yes, strict_offsets}
 use Rattle.runs.proofs.Laws.Falls.{alike_few, marks_few, marks_many, sharp_spaced, spaced_framed, spaced_unframed, total_front, total_same}
 use Rattle.runs.proofs.Laws.Reverse.{length_reversed, oriented_long}
 use Rattle.runs.proofs.Laws.Merged.{begins_later, other_on, runs_merged, same_on}
@@ -95,50 +95,47 @@ unfolding merge colours
 merge_colours n [] u = refl
 merge_colours n (w ∷ ws) u = (behind_colours n (offset w) (coordinate w) ws (tail_up n w ws u) (u 0 (omega arith))).1
 
+pub merge_some : (ws : List ℕ) → 0 < length ws → 0 < length (merge ws)
+unfolding merge
+merge_some [] h = h
+merge_some (w ∷ ws) h = omega arith
+
 -- ---- what is merged of a steady list is steady; of a sharp one sharp, and the runs of its colours
 
-behind_up : (n c : ℕ) (ws : List ℕ) → Up n ws → Up n (merge_behind c ws)
+-- a run that is left out moves the end of the one before it on: each begins as far before its end, or further
+behind_up : (step n c : ℕ) (ws : List ℕ) → UpBy step n ws → (next n ws ≤ next n (merge_behind c ws)) × UpBy step n (merge_behind c ws)
 unfolding merge_behind
-behind_up n c [] u = u
-behind_up n c (w ∷ ws) u = go (eqb c (coordinate w)) (behind_colours n (offset w) (coordinate w) ws (tail_up n w ws u) (u 0 (omega arith))).0 (behind_up n (coordinate w) ws (tail_up n w ws u))
+behind_up step n c [] u = (omega arith, u)
+behind_up step n c (w ∷ ws) u = go (eqb c (coordinate w)) (u 0 (omega arith)) (behind_up step n (coordinate w) ws (λ i l. u (suc i) (omega arith)))
   where
     m : List ℕ
     m = merge_behind (coordinate w) ws
 
-    go : (t : Bool) → offset w ≤ next n m → Up n m → Up n (unless t w m)
-    go true h r = r
-    go false h r = up_cons n w m h r
+    go : (t : Bool) → offset w + step ≤ next n ws → (next n ws ≤ next n m) × UpBy step n m → (offset w ≤ next n (unless t w m)) × UpBy step n (unless t w m)
+    go true h r = (omega (arith, r.0), r.1)
+    go false h r = (omega arith, first_up step n w m (omega (arith, r.0)) r.1)
+
+merge_up : (step n : ℕ) (ws : List ℕ) → UpBy step n ws → UpBy step n (merge ws)
+unfolding merge
+merge_up step n [] u = u
+merge_up step n (w ∷ ws) u =
+    let r = behind_up step n (coordinate w) ws (λ i l. u (suc i) (omega arith)) in
+    let h : offset w + step ≤ next n ws = u 0 (omega arith) in
+    first_up step n w (merge_behind (coordinate w) ws) (omega (arith, r.0)) r.1
+
+merge_begins : (ws : List ℕ) → offset (get_or (merge ws) 0 0) ≡ offset (get_or ws 0 0)
+unfolding merge
+merge_begins [] = refl
+merge_begins (w ∷ ws) = refl
 
 pub merge_steady : (n : ℕ) (ws : List ℕ) → Steady n ws → Steady n (merge ws)
-unfolding merge
-merge_steady n [] s = s
-merge_steady n (w ∷ ws) s =
-    let t = tail_up n w ws s.up in
-    let m : List ℕ = merge_behind (coordinate w) ws in
-    record { first = s.first; up = up_cons n w m (behind_colours n (offset w) (coordinate w) ws t (s.up 0 (omega arith))).0 (behind_up n (coordinate w) ws t) }
-
-pub behind_strict : (n c : ℕ) (ws : List ℕ) → StrictUp n ws → (next n ws ≤ next n (merge_behind c ws)) × StrictUp n (merge_behind c ws)
-unfolding merge_behind
-behind_strict n c [] u = (omega arith, λ i l. absurd (omega arith))
-behind_strict n c (w ∷ ws) u = go (eqb c (coordinate w)) (u 0 (omega arith)) (behind_strict n (coordinate w) ws (λ i l. u (suc i) (omega arith)))
-  where
-    m : List ℕ
-    m = merge_behind (coordinate w) ws
-
-    go : (t : Bool) → offset w < next n ws → (next n ws ≤ next n m) × StrictUp n m → (offset w ≤ next n (unless t w m)) × StrictUp n (unless t w m)
-    go true h r = (omega (arith, r.0), r.1)
-    go false h r = (omega arith, strict_cons n w m (omega (arith, r.0)) r.1)
+merge_steady n ws s = record { first = merge_begins ws ∙ s.first; up = λ i l. omega (arith, merge_up 0 n ws (λ j k. omega (arith, s.up j k)) i l) }
 
 pub merge_sharp : (n : ℕ) (ws : List ℕ) → Sharp n ws → Sharp n (merge ws)
-unfolding merge
-merge_sharp n [] s = absurd (none s.some)
-  where
-    none : 0 < 0 → ⊥
-    none h = omega arith
-merge_sharp n (w ∷ ws) s =
-    let r = behind_strict n (coordinate w) ws (λ i l. s.up (suc i) (omega arith)) in
-    let u : offset w < next n ws = s.up 0 (omega arith) in
-    record { some = omega arith; first = s.first; up = strict_cons n w (merge_behind (coordinate w) ws) (omega (arith, r.0)) r.1 }
+merge_sharp n ws s = record { some = merge_some ws s.some; first = merge_begins ws ∙ s.first; up = λ i l. omega (arith, merge_up 1 n ws (λ j k. omega (arith, s.up j k)) i l) }
+
+pub behind_strict : (n c : ℕ) (ws : List ℕ) → StrictUp n ws → (next n ws ≤ next n (merge_behind c ws)) × StrictUp n (merge_behind c ws)
+behind_strict n c ws u = let r = behind_up 1 n c ws (λ i l. omega (arith, u i l)) in (r.0, λ i l. omega (arith, r.1 i l))
 
 behind_merged : (n c : ℕ) (ws : List ℕ) → StrictUp n ws → 0 < next n ws → merged_from (next n ws) c (colours n ws) ≡ merge_behind c ws
 unfolding merge_behind merged_from colours
@@ -328,11 +325,6 @@ behind_drops c (w ∷ ws) h = go (eqb c (coordinate w))
     go : (t : Bool) → length (unless t w (merge_behind (coordinate w) ws)) + from_bool t ≡ suc (length (merge_behind (coordinate w) ws))
     go true = omega arith
     go false = omega arith
-
-pub merge_some : (ws : List ℕ) → 0 < length ws → 0 < length (merge ws)
-unfolding merge
-merge_some [] h = h
-merge_some (w ∷ ws) h = omega arith
 
 -- ---- moved, they are merged as they were
 

@@ -13,12 +13,20 @@ use Rattle.runs.specs.Colours.{next, end_at, last_run}
 use Rattle.runs.specs.Orders.{rises, steady, climbs, sharp, most_vertices}
 use Rattle.runs.specs.Inside.Lists.{Steady, Sharp, Taken}
 
--- each run begins no later than it ends
+-- each run begins at least `step` vertices before it ends
+abbrev pub UpBy : ℕ → ℕ → List ℕ → Type 0
+UpBy step n ws = (i : ℕ) → i < length ws → offset (get_or ws i 0) + step ≤ end_at n ws i
+
+-- and so no later than it ends, or before
 abbrev pub Up : ℕ → List ℕ → Type 0
 Up n ws = (i : ℕ) → i < length ws → offset (get_or ws i 0) ≤ end_at n ws i
 
 abbrev pub StrictUp : ℕ → List ℕ → Type 0
 StrictUp n ws = (i : ℕ) → i < length ws → offset (get_or ws i 0) < end_at n ws i
+
+pub first_up : (step n w : ℕ) (ws : List ℕ) → offset w + step ≤ next n ws → UpBy step n ws → UpBy step n (w ∷ ws)
+first_up step n w ws h u zero l = h
+first_up step n w ws h u (suc i) l = u i (omega arith)
 
 pub up_cons : (n w : ℕ) (ws : List ℕ) → offset w ≤ next n ws → Up n ws → Up n (w ∷ ws)
 up_cons n w ws h u zero l = h
