@@ -5,6 +5,7 @@ pub mod Writers
 pub mod Codes
 pub mod Tables
 pub mod Windows
+pub mod Shown
 pub mod Places
 pub mod Items
 pub mod Prefix
@@ -17,6 +18,7 @@ pub mod Coded
 pub mod Bitmaps
 pub mod Chunks
 pub mod Filled
+pub mod GapReader
 pub mod Sizes
 pub mod Flat
 pub mod Encoded

@@ -7,5 +7,6 @@ pub mod Prefixes
 pub mod Gaps
 pub mod Bitmaps
 pub mod Bodies
+pub mod GapReader
 pub mod Payloads
 pub mod Indexes

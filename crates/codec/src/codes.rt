@@ -6,7 +6,7 @@ ghost use Rattle.std.specs.Prelude.{◌≡◌, ◌+◌, ◌-◌, ◌*◌, ◌/�
 ghost use Rattle.codec.specs.Bits.{low_bits};
 ghost use Rattle.codec.specs.Codes.{high_bit, gamma, delta, read_low, read_gamma, read_delta};
 ghost use Rattle.codec.specs.Inside.Places.{ReadCodeAt};
-ghost use Rattle.codec.specs.Inside.Windows.{CodedIn};
+ghost use Rattle.codec.specs.Inside.Windows.{IsEntry, CodedIn};
 ghost use Rattle.codec.specs.Inside.Writers.{Ready, Wrote, CodewordOf, SplitOf};
 
 use crate::bits::BitWriter;
@@ -17,6 +17,19 @@ use crate::source::Source;
 pub(crate) struct ReadCode {
     pub(crate) value: u32,
     pub(crate) next: usize,
+}
+
+impl Coded {
+    // Its value, and the bit place behind it, where it stands at `at`.
+    pub(crate) fn behind(self, at: usize) -> ReadCode
+        requires { at + self.count < 2 ^ 64 }
+        ensures { result ≡ record { value = self.value; next = at + self.count } }
+    {
+        ReadCode {
+            value: self.value,
+            next: at + self.count,
+        }
+    }
 }
 
 // The number whose highest set bit is bit `b` and whose lower bits are those from `at`, less 1.
@@ -71,31 +84,62 @@ pub(crate) struct Coded {
     pub(crate) count: usize,
 }
 
-// The number whose highest set bit is bit `b` and whose lower bits are those of `x`, less 1.
-pub(crate) fn topped(x: u64, b: u32) -> u64
-    requires { b ≤ 20 }
-    ensures { (result ≡ x % 2 ^ b + 2 ^ b - 1) × (result < 2 ^ 21) }
+// By the nine bits that a delta code begins with: its count of bits, 64 times how many of them its gamma code has, and 4,096
+// times a mask of the others, which stand below its number's highest bit; 0 where nine bits don't show its gamma code whole, or 20
+// bits follow it. A table, since finding the lowest set bit and shifting by its place take longer.
+static CODES: [u32; 512] = [
+    0, 65, 4292, 65, 29000, 65, 12485, 65, 520654, 65, 4292, 65, 61769, 65, 12485, 65, 134214232,
+    65, 4292, 65, 127306, 65, 12485, 65, 1044943, 65, 4292, 65, 258379, 65, 12485, 65, 0, 65, 4292,
+    65, 29000, 65, 12485, 65, 2093520, 65, 4292, 65, 61769, 65, 12485, 65, 268431961, 65, 4292, 65,
+    127306, 65, 12485, 65, 4190673, 65, 4292, 65, 258379, 65, 12485, 65, 0, 65, 4292, 65, 29000,
+    65, 12485, 65, 8384978, 65, 4292, 65, 61769, 65, 12485, 65, 536867418, 65, 4292, 65, 127306,
+    65, 12485, 65, 16773587, 65, 4292, 65, 258379, 65, 12485, 65, 0, 65, 4292, 65, 29000, 65,
+    12485, 65, 33550804, 65, 4292, 65, 61769, 65, 12485, 65, 1073738331, 65, 4292, 65, 127306, 65,
+    12485, 65, 67105237, 65, 4292, 65, 258379, 65, 12485, 65, 0, 65, 4292, 65, 29000, 65, 12485,
+    65, 520654, 65, 4292, 65, 61769, 65, 12485, 65, 2147480156, 65, 4292, 65, 127306, 65, 12485,
+    65, 1044943, 65, 4292, 65, 258379, 65, 12485, 65, 0, 65, 4292, 65, 29000, 65, 12485, 65,
+    2093520, 65, 4292, 65, 61769, 65, 12485, 65, 0, 65, 4292, 65, 127306, 65, 12485, 65, 4190673,
+    65, 4292, 65, 258379, 65, 12485, 65, 0, 65, 4292, 65, 29000, 65, 12485, 65, 8384978, 65, 4292,
+    65, 61769, 65, 12485, 65, 0, 65, 4292, 65, 127306, 65, 12485, 65, 16773587, 65, 4292, 65,
+    258379, 65, 12485, 65, 0, 65, 4292, 65, 29000, 65, 12485, 65, 33550804, 65, 4292, 65, 61769,
+    65, 12485, 65, 0, 65, 4292, 65, 127306, 65, 12485, 65, 67105237, 65, 4292, 65, 258379, 65,
+    12485, 65, 0, 65, 4292, 65, 29000, 65, 12485, 65, 520654, 65, 4292, 65, 61769, 65, 12485, 65,
+    0, 65, 4292, 65, 127306, 65, 12485, 65, 1044943, 65, 4292, 65, 258379, 65, 12485, 65, 0, 65,
+    4292, 65, 29000, 65, 12485, 65, 2093520, 65, 4292, 65, 61769, 65, 12485, 65, 0, 65, 4292, 65,
+    127306, 65, 12485, 65, 4190673, 65, 4292, 65, 258379, 65, 12485, 65, 0, 65, 4292, 65, 29000,
+    65, 12485, 65, 8384978, 65, 4292, 65, 61769, 65, 12485, 65, 0, 65, 4292, 65, 127306, 65, 12485,
+    65, 16773587, 65, 4292, 65, 258379, 65, 12485, 65, 0, 65, 4292, 65, 29000, 65, 12485, 65,
+    33550804, 65, 4292, 65, 61769, 65, 12485, 65, 0, 65, 4292, 65, 127306, 65, 12485, 65, 67105237,
+    65, 4292, 65, 258379, 65, 12485, 65, 0, 65, 4292, 65, 29000, 65, 12485, 65, 520654, 65, 4292,
+    65, 61769, 65, 12485, 65, 0, 65, 4292, 65, 127306, 65, 12485, 65, 1044943, 65, 4292, 65,
+    258379, 65, 12485, 65, 0, 65, 4292, 65, 29000, 65, 12485, 65, 2093520, 65, 4292, 65, 61769, 65,
+    12485, 65, 0, 65, 4292, 65, 127306, 65, 12485, 65, 4190673, 65, 4292, 65, 258379, 65, 12485,
+    65, 0, 65, 4292, 65, 29000, 65, 12485, 65, 8384978, 65, 4292, 65, 61769, 65, 12485, 65, 0, 65,
+    4292, 65, 127306, 65, 12485, 65, 16773587, 65, 4292, 65, 258379, 65, 12485, 65, 0, 65, 4292,
+    65, 29000, 65, 12485, 65, 33550804, 65, 4292, 65, 61769, 65, 12485, 65, 0, 65, 4292, 65,
+    127306, 65, 12485, 65, 67105237, 65, 4292, 65, 258379, 65, 12485, 65,
+];
+
+// The entry of the code that the low bits of `w` begin with.
+fn code_entry(w: u64) -> u32
+    ensures { IsEntry w result }
 {
-    let one = 1u64 << b;
-    x % one + one - 1
+    CODES[(w % 512) as usize]
 }
 
-// The delta code that the low bits of `w` begin with, where it is seen whole.
+// The delta code that the low bits of `w` begin with, where the first nine of them tell it.
 pub(crate) fn delta_of(w: u64) -> Option<Coded>
     ensures { CodedIn w result }
 {
-    let z = w.trailing_zeros();
-    if 4 < z {
+    let entry = code_entry(w);
+    if entry == 0 {
         return None;
     }
-    let b = topped(w >> (z + 1), z);
-    if 20 < b {
-        return None;
-    }
-    let v = topped(w >> (2 * z + 1), b as u32);
+    let mask = u64::from(entry / 4096);
+    let low = (w >> (entry / 64 % 64)) & mask;
     Some(Coded {
-        value: v as u32,
-        count: (2 * z + 1) as usize + b as usize,
+        value: (low + mask) as u32,
+        count: (entry % 64) as usize,
     })
 }
 

@@ -181,41 +181,9 @@ pub(crate) fn same_gaps<C: CodedIds>(source: Source, at: usize, set: ColorSet) -
     Some(place)
 }
 
-// An id to place `i` of `room`, where that is inside. A slice's `get_mut` promises nothing of the elements
-// afterwards, so the place is tested by hand.
-fn put_id(room: &mut [u32], i: usize, id: u32)
-    ensures { room.new ≡ set room.old i id }
-{
-    if i < room.len() {
-        room[i] = id;
-    }
-}
-
-impl Body<'_> {
-    // The place behind the ids, where that many are coded as distances. They go to the front of `room`, as
-    // many as it holds.
-    pub(crate) fn read_gaps(self, room: &mut [u32]) -> Option<usize>
-        ensures { IdsAt (read_gaps self.entry.count 0 self.entry.colors.n) self.entry result × Put (gaps_in self.entry) room.old room.new }
-    {
-        let mut place = self.at;
-        let mut from: u32 = 0;
-        for i in 0..self.count {
-            let ReadCode { value, next } = self.source.next_delta(place)?;
-            if self.colors.n - from <= value {
-                return None;
-            }
-            let id = from + value;
-            put_id(room, i, id);
-            from = id + 1;
-            place = next;
-        }
-        Some(place)
-    }
-}
-
 // The numbers from `from` up to `to` to place `k` of `out` on: the place behind them. The number is counted beside
 // the places: over `enumerate` dense sets with one id in ten or in a hundred absent are read 6 to 8% slower.
-fn fill_numbers(from: u32, to: u32, out: &mut [u32], k: usize) -> usize
+pub(crate) fn fill_numbers(from: u32, to: u32, out: &mut [u32], k: usize) -> usize
     requires { (from ≤ to) × (k + (to - from) ≤ length out.old) }
     ensures { (result ≡ k + (to - from)) × (out.new ≡ over (take k out.old ++ numbers from (to - from)) out.old) }
 {

@@ -6,6 +6,7 @@ mod bitmap; // a set as one bit for each id
 mod body; // what a payload holds
 mod colors; // a colour count and ids below it
 mod codes; // Elias gamma and delta codes
+mod gap_reader; // ids coded as distances, read
 mod gaps; // ids as the distances between them
 pub mod index; // where the records of a file begin
 pub mod prefix; // LEB128 length prefixes

@@ -85,8 +85,8 @@ pub fn read_color_record(n: u32, input: &[u8], ids: &mut [u32]) -> Result<Given,
 }
 
 // The set of a payload to the front of `ids`: how many they are. Ids coded as distances are kept while they are
-// tested, so that most sets are decoded once. The payload comes as a slice: a `Source`, of three words, would go
-// through memory at these calls, which slows small sets.
+// tested, so that most sets are decoded once. Small sets are given little room, as it is cleared first. The payload comes
+// as a slice: a `Source`, of three words, would go through memory at these calls, which slows small sets.
 fn read_payload(colors: Colors, payload: &[u8], ids: &mut [u32]) -> Result<usize, Refusal>
     requires { length payload.now < 2 ^ 60 }
     ensures { (of_written result, ids.new) ≡ put_set (decode_set colors.n payload.now) ids.old }
@@ -95,7 +95,21 @@ fn read_payload(colors: Colors, payload: &[u8], ids: &mut [u32]) -> Result<usize
         let mut room = [0u32; 32];
         return read_by_room(colors, payload, ids, &mut room);
     }
-    let mut room = [0u32; 1024];
+    if payload.len() < 2048 {
+        let mut room = [0u32; 1024];
+        return read_by_room(colors, payload, ids, &mut room);
+    }
+    read_long_payload(colors, payload, ids)
+}
+
+// The same, with room for more ids. It stands alone in the machine code: so shorter payloads don't pay for the pages of
+// its frame.
+#[inline(never)]
+fn read_long_payload(colors: Colors, payload: &[u8], ids: &mut [u32]) -> Result<usize, Refusal>
+    requires { length payload.now < 2 ^ 60 }
+    ensures { (of_written result, ids.new) ≡ put_set (decode_set colors.n payload.now) ids.old }
+{
+    let mut room = [0u32; 16384];
     read_by_room(colors, payload, ids, &mut room)
 }
 

@@ -22,7 +22,7 @@ over_set xs old i x e h =
     let n : length (xs ++ (x ∷ [])) ≡ i + 1 = length-append xs (x ∷ []) ∙ ap (λ (k : ℕ). k + 1) e in
     rw (n, add-one i, e, drop-cons old i 0 h) (set_at xs (get_or old i 0) (drop (suc i) old) x i e ∙ sym (append_snoc xs x (drop (suc i) old)))
 
-over_take : (xs old : List ℕ) (k : ℕ) → length xs ≡ k → take k (over xs old) ≡ xs
+pub over_take : (xs old : List ℕ) (k : ℕ) → length xs ≡ k → take k (over xs old) ≡ xs
 unfolding over
 over_take xs old k e = take_at xs (drop (length xs) old) k e
 
@@ -84,7 +84,7 @@ over_all xs old e = rw (drop_of_length-le old {i = length xs} (omega arith)) (ap
 -- ---- more elements, from the place behind those written
 
 -- what is written later stands over what was written before
-over_over : (xs ys old : List ℕ) → length xs ≤ length ys → over ys (over xs old) ≡ over ys old
+pub over_over : (xs ys old : List ℕ) → length xs ≤ length ys → over ys (over xs old) ≡ over ys old
 unfolding over
 over_over xs ys old h =
     let d : ℕ = length ys - length xs in

@@ -8,7 +8,7 @@ use native.Mathlib.Decide.{dec_lt}
 use native.Mathlib.Omega.{arith}
 use lib.ListN.{length, take, drop, get_or, length-append, length-take, get_or-append}
 use lib.Seq.{get_or-append-add}
-use lib.Pow.{pow_pos, pow_mono, pow-lt}
+use lib.Pow.{pow_pos, pow_mono, pow-lt, mod-mod-pow}
 use lib.Arith.{mod-mul}
 use lib.Dec.{eqb}
 use Rattle.std.specs.Prelude.{Option, Some, None, slice_get}
@@ -55,6 +55,9 @@ value_lt (true ∷ bs) = omega (arith, value_lt bs, pow-suc 2 (length bs))
 
 pub low_mod : (k n : ℕ) → low_bits k (n % 2 ^ k) ≡ low_bits k n
 low_mod k n = rw (← value_low) (ap (λ (i : ℕ). low_bits i (value_of (low_bits k n))) (sym (length_low k n)) ∙ low_value (low_bits k n))
+
+pub low_below : (j k n : ℕ) → low_bits k (n % 2 ^ (j + k)) ≡ low_bits k n
+low_below j k n = sym (low_mod k (n % 2 ^ (j + k))) ∙ ap (low_bits k) (mod-mod-pow n j k) ∙ low_mod k n
 
 pub low_add : (j k n : ℕ) → low_bits (j + k) n ≡ low_bits j n ++ low_bits k (n / 2 ^ j)
 unfolding low_bits

@@ -1,15 +1,18 @@
 -- A rule of a table, proved at all of its entries by one test that is computed, one entry after the other.
 use mathlib.Core.Path.{◌≡◌, refl, ap, ◌∙◌, subst, sym}
-use mathlib.Core.Bool.{Bool, true, false, ◌&&◌}
+use mathlib.Core.Bool.{Bool, true, false, cond, ◌&&◌, ◌||◌}
 use mathlib.Core.List.{List, [], ◌∷◌}
-use Prim.Native.Nat.{ℕ, zero, suc, ◌+◌, ◌*◌, ◌^◌, ◌<◌}
+use Prim.Native.Nat.{ℕ, zero, suc, ◌+◌, ◌-◌, ◌*◌, ◌/◌, ◌%◌, ◌^◌, ◌≤◌, ◌<◌}
+use native.Mathlib.Omega.{arith}
 use native.Mathlib.Nat.{add-zero, zero-add, add-suc, suc-add, le_of_suc-le-suc, not-suc-le-zero}
 use lib.ListN.{length, get_or}
-use lib.Dec.{ltb, eqb}
-use borrow.Author.Tests.{ltb-true, eqb-true}
+use lib.Dec.{ltb, leb, eqb}
+use borrow.Author.Tests.{ltb-true, leb-true, eqb-true, ne_eqb}
 use Rattle.base.proofs.Bools.{and_true, false_true}
 use Rattle.codec.specs.Bits.{low_bits}
 use Rattle.codec.specs.Codes.{high_bit, high_in, gamma}
+use Rattle.codec.specs.Inside.Windows.{Head, IsEntry}
+use Rattle.codec.proofs.Laws.Low.{low_below}
 
 -- the test passes at each entry and its place, counted from i
 abbrev every : (ℕ → ℕ → Bool) → ℕ → List ℕ → Bool
@@ -42,7 +45,7 @@ len_is k h =
     let t = and_true (eqb (get_or lens k 0) (2 * high_bit (k + 1) + 1 + k)) (ltb (get_or lens k 0) 30) (at long_is lens refl k h) in
     (eqb-true (get_or lens k 0) (2 * high_bit (k + 1) + 1 + k) t.0, ltb-true (get_or lens k 0) 30 t.1)
 
-unfoldable alike : List Bool → List Bool → Bool
+unfoldable pub alike : List Bool → List Bool → Bool
 alike [] [] = true
 alike [] (b ∷ bs) = false
 alike (a ∷ cs) [] = false
@@ -69,3 +72,54 @@ unfolding codes alike low_bits gamma high_bit high_in
 gamma_is k h =
     let t = and_true (alike (low_bits (2 * high_bit (k + 1) + 1) (get_or gammas k 0)) (gamma k)) (ltb (get_or gammas k 0) (2 ^ (2 * high_bit (k + 1) + 1))) (at codes gammas refl k h) in
     (alike_same (low_bits (2 * high_bit (k + 1) + 1) (get_or gammas k 0)) (gamma k) t.0, ltb-true (get_or gammas k 0) (2 ^ (2 * high_bit (k + 1) + 1)) t.1)
+
+-- ---- the codes by their first nine bits
+
+-- the entry at place j: by the b below k, the highest first, whose gamma code begins the bits of j
+unfoldable pub entry : ℕ → ℕ → ℕ
+entry zero j = 0
+entry (suc b) j = let n = 2 * high_bit (b + 1) + 1 in cond (leb n 9 && alike (low_bits n j) (gamma b)) (n + b + 64 * n + 4096 * (2 ^ b - 1)) (entry b j)
+
+abbrev entries : ℕ → ℕ → List ℕ
+entries zero j = []
+entries (suc n) j = entry 20 j ∷ entries n (suc j)
+
+abbrev pub code_entries : List ℕ
+code_entries = entries 512 0
+
+-- what an entry other than 0 owes
+abbrev behind : ℕ → ℕ
+behind e = e % 64 - e / 64 % 64
+
+unfoldable heads : ℕ → ℕ → Bool
+heads j e = eqb e 0 || (leb (behind e) 19 && leb (e / 64 % 64) (e % 64) && leb (e / 64 % 64) 9 && eqb (e / 4096) (2 ^ behind e - 1) && alike (low_bits (e / 64 % 64) j) (gamma (behind e)))
+
+other : (a b : Bool) → (a || b) ≡ true → a ≡ false → b ≡ true
+other true b t n = false_true (sym n)
+other false b t n = t
+
+head_of : (j e : ℕ) → heads j e ≡ true → 0 < e → Head j e
+unfolding heads
+head_of j e t h =
+    let u = other (eqb e 0) _ t (ne_eqb e 0 (λ z. omega (arith, h, z))) in
+    let a = and_true _ (alike (low_bits (e / 64 % 64) j) (gamma (behind e))) u in
+    let b = and_true _ (eqb (e / 4096) (2 ^ behind e - 1)) a.0 in
+    let c = and_true _ (leb (e / 64 % 64) 9) b.0 in
+    let d = and_true (leb (behind e) 19) (leb (e / 64 % 64) (e % 64)) c.0 in
+    record {
+      b = behind e;
+      few = leb-true (behind e) 19 d.0;
+      short = leb-true (e / 64 % 64) 9 c.1;
+      count = omega (arith, leb-true (e / 64 % 64) (e % 64) d.1);
+      mask = eqb-true (e / 4096) (2 ^ behind e - 1) b.1;
+      code = alike_same (low_bits (e / 64 % 64) j) (gamma (behind e)) a.1;
+    }
+
+-- the entry at a number's low nine bits tells of the number
+pub code_is : (w e : ℕ) → e ≡ get_or code_entries (w % 512) 0 → IsEntry w e
+unfolding entry heads alike low_bits gamma high_bit high_in
+code_is w e is h =
+    let head = head_of (w % 512) e (rw is (at heads code_entries refl (w % 512) (omega arith))) h in
+    let k : ℕ = e / 64 % 64 in
+    let nine : 9 ≡ (9 - k) + k = omega (arith, head.short) in
+    record { b = head.b; few = head.few; short = head.short; count = head.count; mask = head.mask; code = sym (low_below (9 - k) k w) ∙ ap (λ (i : ℕ). low_bits k (w % 2 ^ i)) (sym nine) ∙ head.code }

@@ -20,22 +20,6 @@ use Rattle.codec.proofs.Laws.Low.{length_low, low_add, low_mod, low_join, value_
 use Rattle.codec.proofs.Laws.Codes.{high_unique, delta_read}
 use Rattle.codec.proofs.Laws.Bits.{low_top, low_more, joined_lt}
 
--- ---- trailing zeros
-
-half_pow : (w i : ℕ) → w / 2 / 2 ^ i ≡ w / 2 ^ suc i
-half_pow w i = div-div-eq-div-mul w 2 (2 ^ i) ∙ ap (λ (x : ℕ). w / x) (mul_comm 2 (2 ^ i) ∙ sym (pow-suc 2 i))
-
-trailing_low : (k w n : ℕ) → count_trailing_zeros k w < k → low_bits (count_trailing_zeros k w + suc n) w ≡ replicate (count_trailing_zeros k w) false ++ true ∷ low_bits n (w / 2 ^ suc (count_trailing_zeros k w))
-unfolding count_trailing_zeros low_bits
-trailing_low zero w n h = absurd (omega arith)
-trailing_low (suc k) w n h = go (w % 2) refl h (trailing_low k (w / 2) n)
-  where
-    go : (d : ℕ) → w % 2 ≡ d → under d (count_trailing_zeros k (w / 2)) < suc k
-        → (count_trailing_zeros k (w / 2) < k → low_bits (count_trailing_zeros k (w / 2) + suc n) (w / 2) ≡ replicate (count_trailing_zeros k (w / 2)) false ++ true ∷ low_bits n (w / 2 / 2 ^ suc (count_trailing_zeros k (w / 2))))
-        → low_bits (under d (count_trailing_zeros k (w / 2)) + suc n) w ≡ replicate (under d (count_trailing_zeros k (w / 2))) false ++ true ∷ low_bits n (w / 2 ^ suc (under d (count_trailing_zeros k (w / 2))))
-    go zero e h ih = rw (suc-add (count_trailing_zeros k (w / 2)) (suc n), e, ih (omega arith), half_pow w (suc (count_trailing_zeros k (w / 2))))
-    go (suc d) e h ih = rw (zero-add (suc n), e)
-
 -- ---- codes
 
 record Topped (x b v : ℕ) : Type 0 where
@@ -51,22 +35,12 @@ topped_of x b v e =
       low = ap (low_bits b) s ∙ low_top b (x % 2 ^ b) m ∙ low_mod b x;
     }
 
-module _ (w z b : ℕ) (zeros : z ≡ count_trailing_zeros 64 w) (few : z ≤ 4) (is : b ≡ w / 2 ^ (z + 1) % 2 ^ z + 2 ^ z - 1) where
-  pub gamma_of : low_bits (2 * z + 1) w ≡ gamma b
-  unfolding gamma
-  gamma_of =
-      let t = topped_of (w / 2 ^ (z + 1)) z b is in
-      let n : 2 * z + 1 ≡ count_trailing_zeros 64 w + suc z = omega arith in
-      let l : low_bits (2 * z + 1) w ≡ replicate z false ++ true ∷ low_bits z (w / 2 ^ (z + 1)) =
-      ap (λ (k : ℕ). low_bits k w) n ∙ trailing_low 64 w z (omega arith) ∙ ap (λ (k : ℕ). replicate k false ++ true ∷ low_bits z (w / 2 ^ suc k)) (sym zeros) ∙ ap (λ (k : ℕ). replicate z false ++ true ∷ low_bits z (w / 2 ^ k)) (sym (add-one z))
-      in
-      rw (t.high, t.low) l
-
-  pub delta_of_lem : (v : ℕ) → v ≡ w / 2 ^ (2 * z + 1) % 2 ^ b + 2 ^ b - 1 → low_bits (2 * z + 1 + b) w ≡ delta v
-  unfolding delta
-  delta_of_lem v e =
-      let t = topped_of (w / 2 ^ (2 * z + 1)) b v e in
-      rw (t.high, t.low, low_add (2 * z + 1) b w, gamma_of)
+-- a gamma code and the low bits behind it
+pub delta_of_lem : (w k b v : ℕ) → low_bits k w ≡ gamma b → v ≡ w / 2 ^ k % 2 ^ b + 2 ^ b - 1 → low_bits (k + b) w ≡ delta v
+unfolding delta
+delta_of_lem w k b v head e =
+    let t = topped_of (w / 2 ^ k) b v e in
+    rw (t.high, t.low, low_add k b w, head)
 
 -- ---- eight bytes as a number
 
@@ -150,7 +124,7 @@ pub tail_end : (all left : List ℕ) (v : ℕ) → Tail all left v → length le
 tail_end all [] v t e = rw t.parts (t.bits, t.small)
 tail_end all (b ∷ left) v t e = absurd (omega arith)
 
-drop_bits : (xs : List ℕ) (k : ℕ) → drop (8 * k) (bits_of xs) ≡ bits_of (drop k xs)
+pub drop_bits : (xs : List ℕ) (k : ℕ) → drop (8 * k) (bits_of xs) ≡ bits_of (drop k xs)
 unfolding bits_of
 drop_bits xs zero = refl
 drop_bits [] (suc k) = lib.Seq.drop-nil (8 * suc k)
@@ -219,7 +193,7 @@ pub word_window : (bits : List Bool) (r : ℕ) (rest : List Bool) → bits ≡ l
 word_window bits r rest e = window_from (bits ++ replicate 64 false) _ r (ap (λ (l : List Bool). l ++ replicate 64 false) e ∙ append_assoc (low_bits 64 r) rest (replicate 64 false))
 
 -- a code that the window at byte k shows whole is the one that is read
-pub window_found : (xs : List ℕ) (k at r : ℕ) → Window xs k r → (v n : ℕ) → (low_bits n (r / 2 ^ (at - 8 * k)) ≡ delta v) × (n ≤ 29) → 8 * k ≤ at → at + n ≤ 8 * k + 64 → at + n ≤ 8 * length xs → ReadCodeAt read_delta xs at (Some (record { value = v; next = at + n }))
+pub window_found : (xs : List ℕ) (k at r : ℕ) → Window xs k r → (v n : ℕ) → (low_bits n (r / 2 ^ (at - 8 * k)) ≡ delta v) × (n ≤ 28) → 8 * k ≤ at → at + n ≤ 8 * k + 64 → at + n ≤ 8 * length xs → ReadCodeAt read_delta xs at (Some (record { value = v; next = at + n }))
 window_found xs k at r shown v n c low high h =
     let w = behind (bits_of (drop k xs) ++ replicate 64 false) r shown in
     let after : List Bool = drop 64 (bits_of (drop k xs) ++ replicate 64 false) in

@@ -1,16 +1,11 @@
--- `body::Body::read_gaps` meets its contract.
-use Prim.Native.Nat.{ℕ, ◌≤◌, ◌-◌, ◌*◌}
-use mathlib.Core.Path.{◌≡◌}
-use mathlib.Core.List.{List}
-use lib.ListN.{length, take, drop}
-use Rattle.base.specs.Parts.{over}
-use Rattle.codec.specs.Bits.{bits_of}
-use Rattle.codec.specs.Sets.{read_gaps}
-use Rattle.codec.specs.Inside.Gaps.{with_ids}
-use Rattle.codec.specs.Inside.Bodies.{gaps_in}
+-- `body::Body::read_gaps` meets its contract. The loop's invariant: the ids up to the place are read.
+use Prim.Native.Nat.{◌-◌}
+use Rattle.std.specs.Prelude.{Some}
+use Rattle.codec.specs.Inside.GapReader.{ReadOn}
 use Rattle.codec.proofs.body.Body.read_gaps.Given as goal
 
--- the ids read are put, as many as fit, and the others are yet to be read
-abbrev pub invariant-loop-i : goal.invariant-loop-i
-invariant-loop-i l = (l.from ≤ l.self.colors.n) × (l.place ≤ 8 * length l.self.source.bytes.now) × (length l.room ≡ length l.initial.room)
-    × ((xs : List ℕ) × (length xs ≡ l.i) × (l.room ≡ over (take (length l.initial.room) xs) l.initial.room) × (gaps_in l.self ≡ with_ids xs (read_gaps (l.self.count - l.i) l.from l.self.colors.n (drop l.place (bits_of l.self.source.bytes.now)))))
+abbrev pub invariant-loop-r : goal.invariant-loop-r
+invariant-loop-r l = ReadOn 0 l.self (record { i = 0; from = 0; place = l.self.at }) l.fn.room l.room (Some l.r)
+
+abbrev pub decreases-loop-r : goal.decreases-loop-r
+decreases-loop-r l = l.self.count - l.r.i
