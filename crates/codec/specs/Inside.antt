@@ -2,6 +2,7 @@
 pub mod Colors
 pub mod Places
 pub mod Windows
+pub mod Buffers
 pub mod Writers
 pub mod Prefixes
 pub mod Gaps

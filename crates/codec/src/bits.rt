@@ -6,6 +6,7 @@ ghost use Rattle.std.specs.Prelude.{◌≡◌, ◌++◌, ◌+◌, ◌-◌, ◌*�
 ghost use Rattle.base.specs.Parts.{over};
 ghost use Rattle.codec.specs.Bits.{bits_of, value_of, low_bits, pack_bits, AreBytes};
 ghost use Rattle.codec.specs.Inside.Windows.{Window};
+ghost use Rattle.codec.specs.Inside.Buffers.{Placed};
 
 // Bit `at` of the slice, if it has one.
 pub(crate) fn bit_at(bytes: &[u8], at: usize) -> Option<bool>
@@ -67,16 +68,29 @@ pub(crate) fn bits_at(bytes: &[u8], at: usize, b: usize) -> u64
     (window_at(bytes, at / 8) >> (at % 8)) % (1u64 << b)
 }
 
+// The `len` low bytes of `x` to place `at`. All eight are stored where there is space for them, so that most words take one
+// store: what lies behind the `len` bytes may be written too.
+fn put_low_bytes(out: &mut [u8], at: usize, x: u64, len: usize)
+    requires { (at + len ≤ length out.old) × (len ≤ 8) }
+    ensures { Placed out.old out.new at len x }
+{
+    if at + 8 <= out.len() {
+        out[at..at + 8].copy_from_slice(&x.to_le_bytes());
+    } else {
+        out[at..at + len].copy_from_slice(&x.to_le_bytes()[..len]);
+    }
+}
+
 // A writer of bits over a lent buffer: `at` whole bytes are written, and the low `pending` bits of
-// `acc` wait. Whoever takes one by `&mut` ensures that `out` keeps its ghost name: else a caller doesn't know that
-// the bits went to its own buffer.
+// `acc` wait. Nothing is said of what lies behind: words are stored whole. Whoever takes one by `&mut` ensures that `out` keeps
+// its ghost name: else a caller doesn't know that the bits went to its own buffer.
 #[derive(Drop)]
 pub(crate) struct BitWriter<'a> {
     pub(crate) out: &'a mut [u8],
     pub(crate) at: usize,
     pub(crate) acc: u64,
     pub(crate) pending: u32,
-    ghost few: { pending < 32 },
+    ghost few: { pending < 8 },
     ghost low: { acc < 2 ^ pending },
 }
 
@@ -99,33 +113,27 @@ impl<'a> BitWriter<'a> {
     // The low `count` bits of `value` behind the bits written.
     pub(crate) fn push(&mut self, value: u64, count: u32)
         requires ready { Ready self.old count }
-        requires value_bound { (value < 2 ^ count) × (count ≤ 32) }
+        requires value_bound { (value < 2 ^ count) × (count ≤ 56) }
         ensures same_reference { self.new.out.ghost_name ≡ self.old.out.ghost_name }
         ensures wrote { Wrote self.old self.new (low_bits count value) }
     {
         let acc = self.acc + (value << self.pending);
         let pending = self.pending + count;
-        if pending < 32 {
-            self.acc = acc;
-            self.pending = pending;
-            return;
-        }
-        let end = self.at + 4;
-        self.out[self.at..end].copy_from_slice(&acc.to_le_bytes()[..4]);
-        self.at = end;
-        self.acc = acc >> 32;
-        self.pending = pending - 32;
+        let len = (pending / 8) as usize;
+        put_low_bytes(self.out, self.at, acc, len);
+        self.at += len;
+        self.acc = acc >> (8 * (pending / 8));
+        self.pending = pending % 8;
     }
 
     // The bits written as bytes, the last padded with zeros: how many.
     pub(crate) fn finish(&mut self) -> usize
         requires { Ready self.old 0 × AreBytes self.old.out.now }
         ensures same_reference { self.new.out.ghost_name ≡ self.old.out.ghost_name }
-        ensures packed { (result ≡ length (pack_bits (stream_of self.old))) × (self.new.out.now ≡ pack_bits (stream_of self.old) ++ drop result self.old.out.now) }
+        ensures packed { (result ≡ length (pack_bits (stream_of self.old))) × (take result self.new.out.now ≡ pack_bits (stream_of self.old)) × (length self.new.out.now ≡ length self.old.out.now) }
     {
         let len = self.pending.div_ceil(8) as usize;
-        let end = self.at + len;
-        self.out[self.at..end].copy_from_slice(&self.acc.to_le_bytes()[..len]);
-        end
+        put_low_bytes(self.out, self.at, self.acc, len);
+        self.at + len
     }
 }

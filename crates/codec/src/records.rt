@@ -44,12 +44,15 @@ fn is_short(n: u32, room: usize) -> bool
 }
 
 // The record of a set to the front of `out`: how long it is. With so few colours a payload has fewer than 128
-// bytes, so that it needs no measuring before it is written behind its length.
+// bytes, so that it needs no measuring before it is written behind its length. It is made in a room of its own, as what lies
+// behind a payload may be written too.
 fn write_short(set: ColorSet, out: &mut [u8]) -> usize
     requires { (set.colors.n < 136) × (128 ≤ length out.old) }
     ensures { (result ≡ length (record_of set.entry.colors.n set.entry.ids.now)) × (result ≤ 128) × (out.new ≡ over (record_of set.entry.colors.n set.entry.ids.now) out.old) }
 {
-    let len = crate::sets::encode_source_set(&mut out[1..], set);
+    let mut room = [0u8; 136];
+    let len = crate::sets::encode_source_set(&mut room, set);
+    out[1..len + 1].copy_from_slice(&room[..len]);
     out[0] = len as u8;
     len + 1
 }
@@ -69,7 +72,7 @@ pub fn write_color_record(n: u32, ids: &[u32], out: &mut [u8]) -> Result<usize, 
         return Err(Refusal::Space);
     }
     crate::prefix::fill_varint(len, out);
-    crate::sets::encode_source_set(&mut out[at..], set);
+    crate::sets::encode_source_set(&mut out[at..total], set);
     Ok(total)
 }
 

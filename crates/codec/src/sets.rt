@@ -1,6 +1,6 @@
 // Payloads: a set's length, then its ids by one of three regimes.
 // `as` below: no `From` leads between u32 and usize, and no number is cut by it, which is proved.
-ghost use Rattle.std.specs.Prelude.{◌≡◌, ◌&&◌, ltb, ◌+◌, ◌*◌, ◌<◌, ◌≤◌, ◌^◌, length, get_or, drop};
+ghost use Rattle.std.specs.Prelude.{◌≡◌, ◌&&◌, ltb, ◌+◌, ◌*◌, ◌<◌, ◌≤◌, ◌^◌, length, get_or, take, drop};
 ghost use Rattle.base.specs.Parts.{over};
 ghost use Rattle.codec.specs.Bits.{bits_of};
 ghost use Rattle.codec.specs.Sets.{within, regime, dense, body_bits, set_bits, encode_set, read_map, read_body, padding, decode_set};
@@ -90,10 +90,10 @@ pub(crate) fn write_body(w: &mut BitWriter, set: ColorSet)
     }
 }
 
-// The payload of a set to the front of `out`: how many bytes it has.
+// The payload of a set to the front of `out`: how many bytes it has. What lies behind it may be written too.
 pub(crate) fn encode_source_set(out: &mut [u8], set: ColorSet) -> usize
     requires { length (encode_set set.colors.n set.ids.now) ≤ length out.old }
-    ensures { (result ≡ length (encode_set set.entry.colors.n set.entry.ids.now)) × (out.new ≡ over (encode_set set.entry.colors.n set.entry.ids.now) out.old) }
+    ensures { (result ≡ length (encode_set set.entry.colors.n set.entry.ids.now)) × (take result out.new ≡ encode_set set.entry.colors.n set.entry.ids.now) × (length out.new ≡ length out.old) }
 {
     let mut w = BitWriter::new(out);
     crate::codes::write_delta(&mut w, set.ids.len() as u32);

@@ -7,14 +7,15 @@ use native.Mathlib.Nat.{div-one, pow-suc, div-div-eq-div-mul, add_comm, add-mod_
 use native.Mathlib.Decide.{dec_le}
 use native.Mathlib.Omega.{arith}
 use lib.ListN.{get_or, length, take, drop, replicate, length-append, length-replicate, length-drop, take-append-drop, drop_of_length-le, replicate-append-replicate}
-use lib.Seq.{get_or-drop, take_at, drop_at, take_all, length-take-le}
+use lib.Seq.{get_or-drop, take_at, drop_at, take_all, take-take, take-append-add, length-take-le}
 use lib.Arith.{digits_lt}
 use lib.Pow.{pow-add, pow_mono, shl_exact}
 use borrow.Rule.Slice.PartMut.{put_mid}
 use Rattle.std.specs.Int.{w64, byte_at, bytes_low_first, to_le_bytes}
-use Rattle.std.proofs.lemmas.Slice.{take-put_mid, drop-put_mid}
+use Rattle.std.proofs.lemmas.Slice.{take-put_mid}
 use Rattle.codec.specs.Bits.{low_bits, value_of, bits_of, pack_bytes, pack_bits, bytes_for, AreBytes}
 use Rattle.codec.specs.Codes.{high_bit, gamma, delta}
+use Rattle.codec.specs.Inside.Buffers.{Placed}
 use Rattle.codec.proofs.Laws.Codes.{high_top}
 use Rattle.codec.proofs.Laws.Low.{length_low, low_add, low_mod, low_join, value_low, low_value, value_lt, length_bits}
 
@@ -166,25 +167,22 @@ unfolding low_bytes
 bytes_low_bytes zero x = λ i. omega arith
 bytes_low_bytes (suc n) x = λ i. elim i as (λ i. get_or (x % 256 ∷ low_bytes n (x / 256)) i 0 < 256) [ zero ↦ omega arith | suc j ↦ bytes_low_bytes n (x / 256) j ]
 
--- n low bytes of x at a place of the buffer: what the buffer holds then
-pub record Placed (out new : List ℕ) (at n x : ℕ) : Type 0 where
-  pub bits : bits_of (take (at + n) new) ≡ bits_of (take at out) ++ low_bits (8 * n) x
-  pub kept : drop (at + n) new ≡ drop (at + n) out
-  pub size : length new ≡ length out
-  pub bytes : AreBytes out → AreBytes new
-
-pub placed : (out ys : List ℕ) (at n k x : ℕ) → k ≡ n → at + n ≤ length out → n ≤ 8 → ys ≡ take n (to_le_bytes w64 x) → Placed out (put_mid at k out ys) at n x
-placed out ys at n k x e inside few is =
-    let low : ys ≡ low_bytes n x = is ∙ low_of n x few in
-    let l : length ys ≡ n = ap length low ∙ length_low_bytes n x in
-    let new = put_mid at k out ys in
-    let front : take (at + n) new ≡ take at out ++ ys = take-put_mid at k out ys (at + n) (omega arith) (omega arith) in
-    let kept : drop (at + n) new ≡ drop (at + n) out = drop-put_mid at k out ys (at + n) (omega arith) (omega arith) (omega arith) in
+-- k low bytes of x, put at a place of a buffer: the first n of them stand there
+pub placed : (out ys : List ℕ) (at n k m x : ℕ) → m ≡ k → n ≤ k → at + k ≤ length out → k ≤ 8 → ys ≡ take k (to_le_bytes w64 x) → Placed out (put_mid at m out ys) at n x
+placed out ys at n k m x e less inside few is =
+    let low : ys ≡ low_bytes k x = is ∙ low_of k x few in
+    let l : length ys ≡ k = ap length low ∙ length_low_bytes k x in
+    let new = put_mid at m out ys in
+    let all : take (at + k) new ≡ take at out ++ ys = take-put_mid at m out ys (at + k) (omega arith) (omega arith) in
+    let before : length (take at out) ≡ at = length-take-le at out (omega arith) in
+    let front : take (at + n) new ≡ take at out ++ low_bytes n x =
+    sym (take-take (at + n) (at + k) new (omega arith)) ∙ ap (take (at + n)) all ∙ ap (λ (i : ℕ). take (i + n) (take at out ++ ys)) (sym before) ∙ take-append-add (take at out) ys n
+    ∙ ap (λ (l : List ℕ). take at out ++ l) (ap (take n) low ∙ take_low n k x less)
+    in
     record {
-      bits = ap bits_of front ∙ bits_append (take at out) ys ∙ ap (λ (bs : List Bool). bits_of (take at out) ++ bs) (ap bits_of low ∙ bits_low_bytes n x);
-      kept = kept;
-      size = omega (arith, length-append (take at out) (ys ++ drop k (drop at out)), length-append ys (drop k (drop at out)), length-take-le at out (omega arith), length-drop k (drop at out), length-drop at out);
-      bytes = λ h. bytes_append (take at out) (ys ++ drop k (drop at out)) (bytes_take at out h) (bytes_append ys (drop k (drop at out)) (subst AreBytes (sym low) (bytes_low_bytes n x)) (bytes_drop k (drop at out) (bytes_drop at out h)));
+      bits = ap bits_of front ∙ bits_append (take at out) (low_bytes n x) ∙ ap (λ (bs : List Bool). bits_of (take at out) ++ bs) (bits_low_bytes n x);
+      size = omega (arith, length-append (take at out) (ys ++ drop m (drop at out)), length-append ys (drop m (drop at out)), before, length-drop m (drop at out), length-drop at out);
+      bytes = λ h. bytes_append (take at out) (ys ++ drop m (drop at out)) (bytes_take at out h) (bytes_append ys (drop m (drop at out)) (subst AreBytes (sym low) (bytes_low_bytes k x)) (bytes_drop m (drop at out) (bytes_drop at out h)));
     }
 
 -- the last bits with them

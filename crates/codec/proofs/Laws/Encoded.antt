@@ -4,13 +4,14 @@ use mathlib.Core.Path.{◌≡◌, refl, sym, ap, ap₂, ◌∙◌}
 use mathlib.Core.Bool.{Bool, true, false}
 use mathlib.Core.List.{List, [], ◌∷◌, ◌++◌}
 use native.Mathlib.Omega.{arith}
-use lib.ListN.{length, take, drop, set, length-append, length-drop}
-use lib.Seq.{take_at, drop_at, drop-drop}
+use borrow.Rule.Slice.PartMut.{put_mid}
+use lib.ListN.{length, take, drop, set, length-append}
+use lib.Seq.{take_all}
 use lib.Dec.{eqb, ltb}
 use borrow.Author.Tests.{ltb-false, eqb-false}
 use Rattle.base.specs.Parts.{over}
 use Rattle.base.proofs.Bools.{or_none}
-use Rattle.base.proofs.Parts.{length_over, over_behind, tail_is, put_tail}
+use Rattle.base.proofs.Parts.{length_over}
 use Rattle.codec.specs.Bits.{low_bits, bits_of, pack_bits, bytes_for}
 use Rattle.codec.specs.Codes.{delta}
 use Rattle.codec.specs.Prefix.{prefix_of}
@@ -26,6 +27,7 @@ use Rattle.codec.proofs.Laws.Sizes.{set_size, length_payload}
 use Rattle.codec.proofs.Laws.Sets.{absent_count}
 use Rattle.codec.proofs.Laws.Varints.{prefix_1}
 use Rattle.codec.proofs.Laws.Writers.{wrote_then}
+use Rattle.codec.proofs.Laws.Filled.{over_mid, over_take, over_over}
 
 -- ---- the bits of the body, by kind
 
@@ -74,20 +76,12 @@ set_written N ids w v r a b = wrote_then w v (delta (length ids)) a r (body_bits
 
 -- the bits written from the front on, as bytes
 pub encoded : (N r : ℕ) (ids out after : List ℕ) (f w : BitWriter) → Fresh out f → Wrote f w (set_bits N ids)
-    → r ≡ length (pack_bits (stream_of w)) → after ≡ pack_bits (stream_of w) ++ drop r w.out.now → (r ≡ length (encode_set N ids)) × (after ≡ over (encode_set N ids) out)
-unfolding over encode_set low_bits bits_of
+    → r ≡ length (pack_bits (stream_of w)) → take r after ≡ pack_bits (stream_of w) → (r ≡ length (encode_set N ids)) × (take r after ≡ encode_set N ids)
+unfolding encode_set low_bits bits_of
 encoded N r ids out after f w is a n e =
     let nothing : stream_of f ≡ [] = rw (is.front, is.none) refl in
     let p : pack_bits (stream_of w) ≡ pack_bits (set_bits N ids) = ap pack_bits (a.stream ∙ ap (λ (l : List Bool). l ++ set_bits N ids) nothing) in
-    let q : r ≡ length (pack_bits (set_bits N ids)) = n ∙ ap length p in
-    let s : r ≡ bytes_for (length (set_bits N ids)) = q ∙ length_payload N ids in
-    let d : w.at + (r - w.at) ≡ r = omega (arith, a.place, s, is.front, is.none) in
-    let k : drop r w.out.now ≡ drop r out =
-    ap (λ (m : ℕ). drop m w.out.now) (sym d) ∙ sym (drop-drop (r - w.at) w.at w.out.now) ∙ ap (drop (r - w.at)) a.kept ∙ drop-drop (r - w.at) w.at f.out.now ∙ ap (λ (m : ℕ). drop m f.out.now) d ∙ ap (drop r) is.buffer
-    in
-    (q, e ∙ ap₂ (λ (x y : List ℕ). x ++ y) p (k ∙ ap (λ (m : ℕ). drop m out) q))
-
--- ---- a part up to the end of a buffer, lent and back
+    (n ∙ ap length p, e ∙ p)
 
 -- ---- records
 
@@ -103,23 +97,18 @@ record_length_lem N ids len e = rw e (sym (length-append (prefix_of (length (enc
 
 -- the prefix in the front of a buffer, and the payload behind it
 module _ (N len at : ℕ) (ids out mid : List ℕ) (long : len ≡ length (encode_set N ids)) (behind : at ≡ length (prefix_of len)) (front : mid ≡ over (prefix_of len) out) where
-  pub record_room : at + len ≤ length out → length (encode_set N ids) ≤ length (take (length mid - at) (drop at mid))
-  record_room h =
-      let m : length mid ≡ length out = ap length front ∙ length_over (prefix_of len) out (omega arith) in
-      rw (tail_is at mid) (omega (arith, m, length-drop at mid))
-
-  pub record_put : (part : List ℕ) → part ≡ over (encode_set N ids) (take (length mid - at) (drop at mid)) → take at mid ++ (part ++ drop (length mid - at) (drop at mid)) ≡ over (record_of N ids) out
-  unfolding record_of over
-  record_put part e =
+  -- and the payload in a part of its length
+  pub record_put : (total k : ℕ) → total ≡ at + len → k ≡ total - at → at + len ≤ length out → (part : List ℕ) → take len part ≡ encode_set N ids → length part ≡ len → put_mid at k mid part ≡ over (record_of N ids) out
+  unfolding record_of
+  record_put total k t e h part is l =
       let p : List ℕ = prefix_of len in
-      let t : take at mid ≡ p = ap (take at) front ∙ take_at p (drop (length p) out) at (sym behind) in
-      let d : drop at mid ≡ drop (length p) out = ap (drop at) front ∙ drop_at p (drop (length p) out) at (sym behind) in
-      put_tail at mid part ∙ ap₂ (λ (x y : List ℕ). x ++ y) t (e ∙ ap (over (encode_set N ids)) (tail_is at mid ∙ d)) ∙ over_behind p (encode_set N ids) out ∙ ap (λ (n : ℕ). over (prefix_of n ++ encode_set N ids) out) long
-
--- there is a first byte, also when what is behind it was lent
-pub short_room : (out part : List ℕ) → 0 < length out → 0 < length (take 1 out ++ (part ++ drop (length out - 1) (drop 1 out)))
-short_room [] part h = absurd (omega arith)
-short_room (x ∷ xs) part h = omega arith
+      let m : length mid ≡ length out = ap length front ∙ length_over p out (omega (arith, behind)) in
+      let all : part ≡ encode_set N ids = sym (take_all len part (omega arith)) ∙ is in
+      let n : k ≡ length part = omega arith in
+      over_mid mid at (omega (arith, m)) k part (sym n) ∙ ap (λ (l : List ℕ). over (take at mid ++ l) mid) all
+      ∙ ap (λ (l : List ℕ). over (l ++ encode_set N ids) mid) (ap (take at) front ∙ ap (λ (i : ℕ). take i (over p out)) behind ∙ over_take p out (length p) refl)
+      ∙ ap (over (p ++ encode_set N ids)) front ∙ over_over p (p ++ encode_set N ids) out (omega (arith, length-append p (encode_set N ids)))
+      ∙ ap (λ (n : ℕ). over (prefix_of n ++ encode_set N ids) out) long
 
 -- a payload behind its length, which takes one byte
 module _ (N len : ℕ) (ids : List ℕ) (long : len ≡ length (encode_set N ids)) (short : len < 128) where
@@ -130,10 +119,8 @@ module _ (N len : ℕ) (ids : List ℕ) (long : len ≡ length (encode_set N ids
   pub short_length : len + 1 ≡ length (record_of N ids)
   short_length = omega (arith, long, ap length short_record)
 
-  pub short_put : (out part : List ℕ) → 0 < length out → part ≡ over (encode_set N ids) (take (length out - 1) (drop 1 out)) → set (take 1 out ++ (part ++ drop (length out - 1) (drop 1 out))) 0 len ≡ over (record_of N ids) out
-  short_put [] part h e = absurd (omega arith)
-  short_put (x ∷ xs) part h e =
-      ap (λ (l : List ℕ). set l 0 len) (put_tail 1 (x ∷ xs) part)
-      ∙ ap (λ (l : List ℕ). len ∷ l) (e ∙ ap (over (encode_set N ids)) (tail_is 1 (x ∷ xs)))
-      ∙ over_behind (len ∷ []) (encode_set N ids) (x ∷ xs)
-      ∙ ap (λ (r : List ℕ). over r (x ∷ xs)) short_record
+  pub short_put : (out : List ℕ) (k : ℕ) → len + 1 ≤ length out → k ≡ len → set (put_mid 1 k out (encode_set N ids)) 0 len ≡ over (record_of N ids) out
+  unfolding over
+  short_put [] k h e = absurd (omega arith)
+  short_put (x ∷ xs) k h e =
+      ap (λ (l : List ℕ). set l 0 len) (over_mid (x ∷ xs) 1 (omega arith) k (encode_set N ids) (sym (e ∙ long))) ∙ ap (λ (r : List ℕ). over r (x ∷ xs)) short_record

@@ -16,25 +16,18 @@ wrote_none w = record {
   forth = le_refl w.at;
   place = omega arith;
   size = refl;
-  kept = refl;
   bytes = λ h. h;
 }
 
 module _ (w v : BitWriter) (xs : List Bool) (a : Wrote w v xs) where
   pub wrote_then : (r : BitWriter) (ys : List Bool) → Wrote v r ys → Wrote w r (xs ++ ys)
-  wrote_then r ys b =
-      let n : v.at + (r.at - v.at) ≡ r.at = omega (arith, b.forth) in
-      record {
-        stream = b.stream ∙ ap (λ (l : List Bool). l ++ ys) a.stream ∙ append_assoc (stream_of w) xs ys;
-        forth = le_trans a.forth b.forth;
-        place = omega (arith, a.place, b.place, length-append xs ys);
-        size = b.size ∙ a.size;
-        kept = b.kept ∙ later (r.at - v.at) r.at n;
-        bytes = λ h. b.bytes (a.bytes h);
-      }
-    where
-      later : (k n : ℕ) → v.at + k ≡ n → drop n v.out.now ≡ drop n w.out.now
-      later k n e = ap (λ (m : ℕ). drop m v.out.now) (sym e) ∙ sym (drop-drop k v.at v.out.now) ∙ ap (drop k) a.kept ∙ drop-drop k v.at w.out.now ∙ ap (λ (m : ℕ). drop m w.out.now) e
+  wrote_then r ys b = record {
+    stream = b.stream ∙ ap (λ (l : List Bool). l ++ ys) a.stream ∙ append_assoc (stream_of w) xs ys;
+    forth = le_trans a.forth b.forth;
+    place = omega (arith, a.place, b.place, length-append xs ys);
+    size = b.size ∙ a.size;
+    bytes = λ h. b.bytes (a.bytes h);
+  }
 
   -- and room is left for what was not written yet
   pub ready_after : (spare more : ℕ) → Ready w spare → length xs + more ≤ spare → Ready v more

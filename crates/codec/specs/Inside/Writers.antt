@@ -1,5 +1,5 @@
 -- What a bit writer holds.
-use Rattle.std.specs.Prelude.{ℕ, ◌+◌, ◌*◌, ◌≤◌, ◌<◌, ◌^◌, ◌≡◌, Bool, List, ◌++◌, length, take, drop}
+use Rattle.std.specs.Prelude.{ℕ, ◌+◌, ◌*◌, ◌≤◌, ◌<◌, ◌^◌, ◌≡◌, Bool, List, ◌++◌, length, take}
 use Rattle.codec.specs.Bits.{bits_of, low_bits, AreBytes}
 use Rattle.codec.specs.Codes.{high_bit}
 use Rattle.codec.specs.declared.bits.BitWriter.{BitWriter}
@@ -22,13 +22,12 @@ pub record Fresh (out : List ℕ) (w : BitWriter) : Type 0 where
 abbrev pub Ready : BitWriter → ℕ → Type 0
 Ready w spare = 8 * w.at + w.pending + spare ≤ 8 * length w.out.now
 
--- a writer after `bits` were put behind its own; what lies behind its place is as it was
+-- a writer after `bits` were put behind its own; what lies behind its place may be anything
 pub record Wrote (w r : BitWriter) (bits : List Bool) : Type 0 where
   pub stream : stream_of r ≡ stream_of w ++ bits
   pub forth : w.at ≤ r.at
   pub place : 8 * r.at + r.pending ≡ 8 * w.at + w.pending + length bits
   pub size : length r.out.now ≡ length w.out.now
-  pub kept : drop r.at r.out.now ≡ drop r.at w.out.now
   pub bytes : AreBytes w.out.now → AreBytes r.out.now
 
 -- a number whose low bits are the code

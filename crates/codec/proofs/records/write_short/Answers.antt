@@ -1,38 +1,33 @@
 -- `records::write_short` meets its contract.
-use Prim.Native.Nat.{◌<◌}
+use Prim.Native.Nat.{ℕ, ◌+◌, ◌-◌, ◌<◌}
+use mathlib.Core.Path.{◌≡◌, ap, ◌∙◌}
+use mathlib.Core.List.{List}
 use native.Mathlib.Omega.{arith}
-use lib.ListN.{length-drop}
+use borrow.Rule.Slice.PartMut.{put_mid}
+use lib.ListN.{set}
+use Rattle.codec.specs.Sets.{encode_set}
 use Rattle.codec.proofs.Laws.Sizes.{payload_short}
-use Rattle.base.proofs.Parts.{tail_is}
-use Rattle.codec.proofs.Laws.Encoded.{short_room, short_length, short_put}
+use Rattle.codec.proofs.Laws.Encoded.{short_length, short_put}
 use Rattle.codec.proofs.records.write_short.Goals as goal
+use Rattle.codec.proofs.records.write_short.Goals.{After-encode_source_set-len}
+
+short : (c : After-encode_source_set-len) → c.encode_source_set-len.result < 128
+short c = let s = c.args.set in omega (arith, c.encode_source_set-len.ensures.0, payload_short s.colors.n s.ids.now c.requires.0 s.within)
 
 pub encode_source_set-len-requires : goal.encode_source_set-len-requires
-encode_source_set-len-requires c =
-    let a = c.args in
-    let out = a.out.now in
-    rw (tail_is 1 out) (omega (arith, payload_short a.set.colors.n a.set.ids.now c.requires.0 a.set.within, length-drop 1 out))
+encode_source_set-len-requires c = let s = c.args.set in omega (arith, payload_short s.colors.n s.ids.now c.requires.0 s.within)
 
-pub overflow_cast-out : goal.overflow_cast-out
-overflow_cast-out c =
-    let a = c.args in
-    omega (arith, c.encode_source_set-len.ensures.0, payload_short a.set.colors.n a.set.ids.now c.requires.0 a.set.within)
-
-pub bounds-out-0 : goal.bounds-out-0
-bounds-out-0 c =
-    short_room c.args.out.now c.encode_source_set-len.new.out (omega arith)
-
-pub overflow_add-result : goal.overflow_add-result
-overflow_add-result c =
-    let a = c.args in
-    omega (arith, c.encode_source_set-len.ensures.0, payload_short a.set.colors.n a.set.ids.now c.requires.0 a.set.within)
+pub slice_bounds-copy_from_slice-end : goal.slice_bounds-copy_from_slice-end
+slice_bounds-copy_from_slice-end c = omega (arith, short (goal.at.slice_bounds-copy_from_slice-end c).After-encode_source_set-len)
 
 pub returns : goal.returns
 returns c =
-    let short : c.encode_source_set-len.result < 128 = omega (arith, c.encode_source_set-len.ensures.0, payload_short c.args.set.colors.n c.args.set.ids.now c.requires.0 c.args.set.within) in
-    let a = c.args in
-    let r = c.encode_source_set-len.result in (
-      short_length a.set.colors.n r a.set.ids.now c.encode_source_set-len.ensures.0 short,
-      omega (arith, short),
-      short_put a.set.colors.n r a.set.ids.now c.encode_source_set-len.ensures.0 short a.out.now c.encode_source_set-len.new.out (omega arith) c.encode_source_set-len.ensures.1,
+    let s = c.args.set in
+    let r : ℕ = c.encode_source_set-len.result in
+    let few = short (goal.at.returns c).After-encode_source_set-len in
+    let part : c.copy_from_slice.new.self ≡ encode_set s.colors.n s.ids.now = c.copy_from_slice.ensures.after ∙ c.encode_source_set-len.ensures.1 in
+    (
+      short_length s.colors.n r s.ids.now c.encode_source_set-len.ensures.0 few,
+      omega (arith, few),
+      ap (λ (l : List ℕ). set (put_mid 1 (r + 1 - 1) c.args.out.now l) 0 r) part ∙ short_put s.colors.n r s.ids.now c.encode_source_set-len.ensures.0 few c.args.out.now (r + 1 - 1) (omega (arith, few)) (omega arith),
     )

@@ -40,4 +40,4 @@ returns c =
     let s = c.args.set in
     let all = set_written s.colors.n s.ids.now c.new-w.result c.write_delta.new.w c.write_body.new.w c.write_delta.ensures.wrote c.write_body.ensures.wrote in
     let e = encoded s.colors.n c.finish.result s.ids.now c.args.out.now c.finish.new.self.out.now c.new-w.result c.write_body.new.w c.new-w.ensures.front all c.finish.ensures.packed.0 c.finish.ensures.packed.1 in
-    (e.0, search rules ∙ e.1)
+    (e.0, search rules ∙ e.1, search rules)
