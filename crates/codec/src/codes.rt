@@ -2,12 +2,12 @@
 // Bytes and bit place are plain parameters, as the specification names this form, so each reader says itself how
 // long the bytes are at most.
 // `as` below: no `From` leads from u64 to u32, or from either to usize, and no number is cut by it, which is proved.
-ghost use Rattle.std.specs.Prelude.{◌≡◌, ◌+◌, ◌-◌, ◌*◌, ◌/◌, ◌%◌, ◌<◌, ◌≤◌, ◌^◌, length};
+ghost use Rattle.std.specs.Prelude.{◌≡◌, ◌++◌, ◌+◌, ◌-◌, ◌*◌, ◌/◌, ◌%◌, ◌<◌, ◌≤◌, ◌^◌, length};
 ghost use Rattle.codec.specs.Bits.{low_bits};
 ghost use Rattle.codec.specs.Codes.{high_bit, gamma, delta, read_low, read_gamma, read_delta};
 ghost use Rattle.codec.specs.Inside.Places.{ReadCodeAt};
 ghost use Rattle.codec.specs.Inside.Windows.{IsEntry, CodedIn};
-ghost use Rattle.codec.specs.Inside.Writers.{Ready, Wrote, CodewordOf, SplitOf};
+ghost use Rattle.codec.specs.Inside.Writers.{Ready, Wrote, CodewordOf, ShortOf};
 
 use crate::bits::BitWriter;
 use crate::source::Source;
@@ -158,28 +158,24 @@ pub(crate) struct Codeword {
     pub(crate) count: u32,
 }
 
-// The place of a number's highest set bit, and the number without that bit.
-#[derive(Clone, Copy)]
-pub(crate) struct Split {
-    pub(crate) bit: u32,
-    pub(crate) low: u64,
-}
-
-pub(crate) fn split_top(s: u32) -> Split
-    requires { 0 < s }
-    ensures { SplitOf s result }
-{
-    let bit = s.ilog2();
-    Split {
-        bit,
-        low: u64::from(s) - (1u64 << bit),
+impl Codeword {
+    // Behind it the next.
+    pub(crate) fn then(self, next: Codeword) -> Codeword
+        requires { (self.value < 2 ^ self.count) × (next.value < 2 ^ next.count) × (self.count + next.count ≤ 56) }
+        ensures { CodewordOf result (low_bits self.count self.value ++ low_bits next.count next.value) × (result.count ≡ self.count + next.count) }
+    {
+        Codeword {
+            value: self.value + (next.value << self.count),
+            count: self.count + next.count,
+        }
     }
 }
 
-// The gamma codes of 0 to 20, as numbers. A table, since finding a highest set bit is slow on many
-// processors.
-const GAMMA: [u16; 21] = [
-    1, 2, 6, 4, 12, 20, 28, 8, 24, 40, 56, 72, 88, 104, 120, 16, 48, 80, 112, 144, 176,
+// What the delta code of a number, as a number, is short of that number and 1 behind as many bits as the gamma code has, by its
+// highest set bit: that bit there, less the gamma code. A table, so that neither is made in the loop.
+const SHORT_OF: [u32; 21] = [
+    1, 14, 26, 252, 500, 1004, 2020, 16376, 32744, 65496, 131016, 262072, 524200, 1048472, 2097032,
+    16777200, 33554384, 67108784, 134217616, 268435312, 536870736,
 ];
 
 // How many bits the delta code of a number has whose highest set bit, 1 added, is bit 0 to 20.
@@ -195,23 +191,24 @@ fn top_len(bit: u32) -> u32
     u32::from(DELTA_LEN[bit as usize])
 }
 
-// The gamma code of `v` as a number.
-fn gamma_value(v: u32) -> u64
-    requires { v ≤ 20 }
-    ensures { (low_bits (2 * high_bit (v + 1) + 1) result ≡ gamma v) × (result < 2 ^ (2 * high_bit (v + 1) + 1)) }
+// The highest set bit `bit` behind a gamma code, less the gamma code of `bit`.
+fn short_of(bit: u32) -> u64
+    requires { bit ≤ 20 }
+    ensures { ShortOf bit result }
 {
-    u64::from(GAMMA[v as usize])
+    u64::from(SHORT_OF[bit as usize])
 }
 
 // The delta code of `v`.
 pub(crate) fn delta_word(v: u32) -> Codeword
     requires { v ≤ 2 ^ 20 }
-    ensures { CodewordOf result (delta v) × (result.count ≤ 29) }
+    ensures { CodewordOf result (delta v) × (result.count ≤ 29) × (v + 1 < 2 ^ 20 → result.count ≤ 28) }
 {
-    let s = split_top(v + 1);
-    let count = top_len(s.bit);
+    let s = v + 1;
+    let bit = s.ilog2();
+    let count = top_len(bit);
     Codeword {
-        value: gamma_value(s.bit) + (s.low << (count - s.bit)),
+        value: (u64::from(s) << (count - bit)) - short_of(bit),
         count,
     }
 }

@@ -3,9 +3,10 @@
 ghost use Rattle.std.specs.Prelude.{◌≡◌, ◌++◌, ◌+◌, ◌-◌, ◌*◌, ◌<◌, ◌≤◌, ◌^◌, length, take, drop, set, Bool, true, false};
 ghost use Rattle.base.specs.Parts.{over};
 ghost use Rattle.codec.specs.Bits.{bits_of};
+ghost use Rattle.codec.specs.Codes.{delta};
 ghost use Rattle.codec.specs.Sets.{Within, gap_bits, read_gaps, absent};
 ghost use Rattle.codec.specs.Inside.Writers.{Ready, Wrote};
-ghost use Rattle.codec.specs.Inside.Gaps.{coded_ids, numbers, Ahead, up_in, Skipped, Gave, BitsAt, is_given, Put, Kept, ids_in};
+ghost use Rattle.codec.specs.Inside.Gaps.{coded_ids, numbers, Ahead, up_in, Skipped, Gave, GaveEight, bits_from, WroteFrom, BitsAt, is_given, Put, Kept, ids_in};
 ghost use Rattle.codec.specs.Inside.Bodies.{gaps_in, IdsAt};
 
 use crate::bits::BitWriter;
@@ -39,6 +40,11 @@ pub(crate) trait CodedIds {
     fn next_id(set: ColorSet, c: Cursor) -> Option<NextId>
         requires { Ahead set.colors.n set.ids.now c }
         ensures { Gave dense set.entry.colors.n set.entry.ids.now c result };
+
+    // The place behind the next eight ids to code, where they are seen to go up by one from the cursor's number.
+    fn next_eight(set: ColorSet, c: Cursor) -> Option<Cursor>
+        requires { Ahead set.colors.n set.ids.now c }
+        ensures { GaveEight dense set.entry.colors.n set.entry.ids.now c result };
 }
 
 // A sparse set codes its own ids.
@@ -111,6 +117,19 @@ impl CodedIds for Present {
             },
         })
     }
+
+    // As the ids ascend, the last of eight tells.
+    #[inline(always)]
+    fn next_eight(set: ColorSet, c: Cursor) -> Option<Cursor> {
+        let i = c.i + 8;
+        if set.ids.len() < i || set.ids[c.i + 7] as usize != c.from as usize + 7 {
+            return None;
+        }
+        Some(Cursor {
+            i,
+            from: c.from + 8,
+        })
+    }
 }
 
 impl CodedIds for Absent {
@@ -132,6 +151,23 @@ impl CodedIds for Absent {
             },
         })
     }
+
+    // As the ids ascend, the next one tells, or the colour count.
+    #[inline(always)]
+    fn next_eight(set: ColorSet, c: Cursor) -> Option<Cursor> {
+        let next = if c.i < set.ids.len() {
+            set.ids[c.i]
+        } else {
+            set.colors.n
+        };
+        if next - c.from < 8 {
+            return None;
+        }
+        Some(Cursor {
+            i: c.i,
+            from: c.from + 8,
+        })
+    }
 }
 
 // How many bits the coded ids of a set take.
@@ -147,6 +183,38 @@ pub(crate) fn gaps_len<C: CodedIds>(set: ColorSet) -> usize
     bits
 }
 
+// Two codes behind the bits of `w`: those of v and of u.
+#[inline(always)]
+fn write_two(w: &mut BitWriter, v: u32, u: u32)
+    requires { (v + u + 2 ≤ 2 ^ 20) × Ready w.old (length (delta v) + length (delta u)) }
+    ensures same_reference { w.new.out.ghost_name ≡ w.old.out.ghost_name }
+    ensures wrote { Wrote w.old w.new (delta v ++ delta u) }
+{
+    let both = crate::codes::delta_word(v).then(crate::codes::delta_word(u));
+    w.push(both.value, both.count);
+}
+
+// The next coded ids behind the bits of `w`: eight that go up by one, each of which has a code of a single one, or two. The
+// place behind them, or none where they were the last.
+#[inline(always)]
+fn write_next<C: CodedIds>(w: &mut BitWriter, set: ColorSet, c: Cursor) -> Option<Cursor>
+    requires { Ahead set.colors.n set.ids.now c × Ready w.old (length (bits_from C.dense set.colors.n set.ids.now c)) }
+    ensures same_reference { w.new.out.ghost_name ≡ w.old.out.ghost_name }
+    ensures wrote { WroteFrom C.dense set.entry.colors.n set.entry.ids.now w.old w.new c result }
+{
+    if let Some(next) = C::next_eight(set, c) {
+        w.push(255, 8);
+        return Some(next);
+    }
+    let first = C::next_id(set, c)?;
+    let Some(second) = C::next_id(set, first.next) else {
+        crate::codes::write_delta(w, first.id - c.from);
+        return None;
+    };
+    write_two(w, first.id - c.from, second.id - first.next.from);
+    Some(second.next)
+}
+
 // The coded ids of a set behind the bits of `w`.
 pub(crate) fn write_gaps<C: CodedIds>(w: &mut BitWriter, set: ColorSet)
     requires { Ready w.old (length (gap_bits 0 (coded_ids C.dense set.colors.n set.ids.now))) }
@@ -154,8 +222,7 @@ pub(crate) fn write_gaps<C: CodedIds>(w: &mut BitWriter, set: ColorSet)
     ensures wrote { Wrote w.old w.new (gap_bits 0 (coded_ids C.dense set.entry.colors.n set.entry.ids.now)) }
 {
     let mut c = Cursor { i: 0, from: 0 };
-    while let Some(NextId { id, next }) = C::next_id(set, c) {
-        crate::codes::write_delta(w, id - c.from);
+    while let Some(next) = write_next::<C>(w, set, c) {
         c = next;
     }
 }

@@ -6,15 +6,16 @@ use mathlib.Core.List.{List, [], ◌∷◌, ◌++◌, map, append_assoc, append-
 use native.Mathlib.Numerals.{add-one}
 use native.Mathlib.Decide.{ℕ_discrete, dec_lt}
 use native.Mathlib.Omega.{arith}
-use lib.ListN.{length, drop, get_or, length-append, length-drop, drop_of_length-le}
+use lib.ListN.{length, drop, get_or, replicate, length-append, length-drop, drop_of_length-le}
 use lib.Seq.{drop-cons, drop-drop, drop_at, get_or-drop}
 use lib.Dec.{eqb}
 use borrow.Author.Tests.{eq-eqb, ne_eqb}
-use Rattle.codec.specs.Bits.{digit}
-use Rattle.codec.specs.Codes.{delta, got, read_delta}
+use Rattle.codec.specs.Bits.{digit, low_bits}
+use Rattle.codec.specs.Codes.{gamma, delta, high_bit, high_in, got, read_delta}
 use Rattle.codec.specs.Sets.{Within, map_bits, ids_of, absent, gap_bits}
-use Rattle.codec.specs.Inside.Gaps.{coded_ids, absent_from, coded_from, Ahead, up_in, Skipped, Gave}
+use Rattle.codec.specs.Inside.Gaps.{coded_ids, absent_from, coded_from, numbers, Ahead, up_in, Skipped, Gave, GaveEight, bits_from}
 use Rattle.codec.specs.declared.gaps.Cursor.{Cursor}
+use Rattle.codec.specs.declared.gaps.NextId.{NextId}
 use Rattle.std.specs.Prelude.{Some, None}
 use Rattle.codec.proofs.Laws.Codes.{delta_read}
 
@@ -230,6 +231,88 @@ module _ (N : ℕ) (ids : List ℕ) (c : Cursor) where
   unfolding coded_from
   gave_no_id h = drop_of_length-le ids h
 
+-- ---- eight ids at once
+
+-- ids whose last is as far up as their count are numbers that go up by one
+run_are : (k N from : ℕ) (xs : List ℕ) → Within from N xs → k < length xs → get_or xs k 0 ≡ from + k → xs ≡ numbers from (suc k) ++ drop (suc k) xs
+unfolding numbers
+run_are k N from [] w h e = absurd (omega arith)
+run_are zero N from (x ∷ xs) w h e = let s : x ≡ from = omega arith in ap (λ (n : ℕ). n ∷ xs) s
+run_are (suc k) N from (x ∷ xs) w h e =
+    let s : x ≡ from = omega (arith, w.0, within_at xs (x + 1) N k w.2 (omega arith)) in
+    let v : Within (from + 1) N xs = subst (λ (n : ℕ). Within n N xs) (ap (λ (n : ℕ). n + 1) s) w.2 in
+    ap (λ (n : ℕ). n ∷ xs) s ∙ ap (λ (l : List ℕ). from ∷ l) (run_are k N (from + 1) xs v (omega arith) (omega arith))
+
+-- ids that all lie further up
+within_from : (xs : List ℕ) (from to N : ℕ) → Within from N xs → (0 < length xs → to ≤ get_or xs 0 0) → Within to N xs
+within_from [] from to N w h = tt
+within_from (x ∷ xs) from to N w h = (h (omega arith), w.1, w.2)
+
+within_less : (xs : List ℕ) (from to N : ℕ) → from ≤ to → Within to N xs → Within from N xs
+within_less [] from to N h w = tt
+within_less (x ∷ xs) from to N h w = (omega (arith, w.0), w.1, w.2)
+
+-- where the next id lies k further up, the k numbers before it are absent
+absent_run : (k N from : ℕ) (xs : List ℕ) → from + k ≤ N → Within (from + k) N xs → absent_from from (N - from) xs ≡ numbers from k ++ absent_from (from + k) (N - (from + k)) xs
+unfolding numbers
+absent_run zero N from xs h w = let z : from ≡ from + 0 = omega arith in ap (λ (n : ℕ). absent_from n (N - n) xs) z
+absent_run (suc k) N from xs h w =
+    let n : from + 1 + k ≡ from + suc k = omega arith in
+    absent_next N from xs (omega arith) (within_less xs (from + 1) (from + suc k) N (omega arith) w)
+    ∙ ap (λ (l : List ℕ). from ∷ l) (absent_run k N (from + 1) xs (omega arith) (subst (λ (m : ℕ). Within m N xs) (sym n) w) ∙ ap (λ (m : ℕ). numbers (from + 1) k ++ absent_from m (N - m) xs) n)
+
+module _ (N : ℕ) (ids : List ℕ) (c : Cursor) (a : Ahead N ids c) where
+  pub eight_ids : c.i + 8 ≤ length ids → get_or ids (c.i + 7) 0 ≡ c.from + 7 → GaveEight false N ids c (Some (record { i = c.i + 8; from = c.from + 8 }))
+  unfolding coded_from
+  eight_ids h up =
+      let xs : List ℕ = drop c.i ids in
+      let l : 7 < length xs = simp length-drop (omega arith) in
+      let x : get_or xs 7 0 ≡ c.from + 7 = get_or-drop c.i ids 7 0 ∙ up in
+      let r = run 7 N c.from xs a.left l x in
+      let d : drop 8 xs ≡ drop (c.i + 8) ids = drop-drop 8 c.i ids in
+      (run_are 7 N c.from xs a.left l x ∙ ap (λ (l : List ℕ). numbers c.from 8 ++ l) d, refl, record { inside = h; below = r.below; left = subst (Within (c.from + 8) N) d r.left })
+
+  pub eight_absent : c.from + 8 ≤ N → (c.i < length ids → c.from + 8 ≤ get_or ids c.i 0) → GaveEight true N ids c (Some (record { i = c.i; from = c.from + 8 }))
+  unfolding coded_from
+  eight_absent h up =
+      let xs : List ℕ = drop c.i ids in
+      let w : Within (c.from + 8) N xs = within_from xs c.from (c.from + 8) N a.left (λ l. subst (λ (n : ℕ). c.from + 8 ≤ n) (sym (first_at N ids c.i c.from c.i)) (up (omega (arith, l, length-drop c.i ids)))) in
+      (absent_run 8 N c.from xs h w, refl, record { inside = a.inside; below = h; left = w })
+
+-- each is coded by a single one
+ones_bits : (k from : ℕ) (xs : List ℕ) → gap_bits from (numbers from k ++ xs) ≡ replicate k true ++ gap_bits (from + k) xs
+unfolding gap_bits numbers delta gamma high_bit high_in low_bits
+ones_bits zero from xs = let z : from ≡ from + 0 = omega arith in ap (λ (n : ℕ). gap_bits n xs) z
+ones_bits (suc k) from xs =
+    let z : from - from ≡ 0 = omega arith in
+    let n : from + 1 + k ≡ from + suc k = omega arith in
+    ap (λ (v : ℕ). delta v ++ gap_bits (from + 1) (numbers (from + 1) k ++ xs)) z ∙ ap (λ (l : List Bool). true ∷ l) (ones_bits k (from + 1) xs ∙ ap (λ (m : ℕ). replicate k true ++ gap_bits m xs) n)
+
+pub eight_bits : (dense : Bool) (N : ℕ) (ids : List ℕ) (c next : Cursor) → GaveEight dense N ids c (Some next) → bits_from dense N ids c ≡ low_bits 8 255 ++ bits_from dense N ids next
+unfolding low_bits
+eight_bits dense N ids c next g =
+    ap (gap_bits c.from) g.0 ∙ ones_bits 8 c.from (coded_from dense N ids next) ∙ ap (λ (n : ℕ). replicate 8 true ++ gap_bits n (coded_from dense N ids next)) (sym g.1)
+
+-- the bits of the next id, and of those behind it
+pub next_bits : (dense : Bool) (N : ℕ) (ids : List ℕ) (c : Cursor) (id : ℕ) (next : Cursor) → Gave dense N ids c (Some (record { id = id; next = next })) → bits_from dense N ids c ≡ delta (id - c.from) ++ bits_from dense N ids next
+unfolding gap_bits
+next_bits dense N ids c id next gave = ap (gap_bits c.from) gave.0 ∙ ap (λ (n : ℕ). delta (id - c.from) ++ gap_bits n (coded_from dense N ids next)) (sym gave.3)
+
+pub no_bits : (dense : Bool) (N : ℕ) (ids : List ℕ) (c : Cursor) → Gave dense N ids c None → bits_from dense N ids c ≡ []
+unfolding gap_bits
+no_bits dense N ids c e = ap (gap_bits c.from) e
+
+module _ (dense : Bool) (N : ℕ) (ids : List ℕ) (c : Cursor) (first : NextId) (gave : Gave dense N ids c (Some first)) where
+  -- the bits of the last id
+  pub last_bits : Gave dense N ids first.next None → bits_from dense N ids c ≡ delta (first.id - c.from)
+  last_bits e = next_bits dense N ids c first.id first.next gave ∙ ap (λ (l : List Bool). delta (first.id - c.from) ++ l) (no_bits dense N ids first.next e) ∙ append-nil (delta (first.id - c.from))
+
+  -- of two ids
+  pub two_bits : (second : NextId) → Gave dense N ids first.next (Some second) → bits_from dense N ids c ≡ (delta (first.id - c.from) ++ delta (second.id - first.next.from)) ++ bits_from dense N ids second.next
+  two_bits second more =
+      next_bits dense N ids c first.id first.next gave ∙ ap (λ (l : List Bool). delta (first.id - c.from) ++ l) (next_bits dense N ids first.next second.id second.next more)
+      ∙ sym (append_assoc (delta (first.id - c.from)) (delta (second.id - first.next.from)) (bits_from dense N ids second.next))
+
 -- ---- the bits of a set's coded ids: those of the ids given, and those of the ids yet to give
 
 pub record Coding (dense : Bool) (N : ℕ) (ids : List ℕ) (c : Cursor) (done : List Bool) : Type 0 where
@@ -252,25 +335,20 @@ module _ (dense : Bool) (N : ℕ) (ids : List ℕ) where
   }
 
   module _ (c : Cursor) (done : List Bool) (so : Coding dense N ids c done) where
+    -- the bits of more ids
+    pub coding_on : (next : Cursor) (bits : List Bool) → bits_from dense N ids c ≡ bits ++ bits_from dense N ids next → Ahead N ids next → Coding dense N ids next (done ++ bits)
+    coding_on next bits e ahead = record { ahead = ahead; all = so.all ∙ ap (λ (l : List Bool). done ++ l) e ∙ sym (append_assoc done bits (bits_from dense N ids next)) }
+
+    -- there is room for those that are left
+    pub coding_room : length done + length (bits_from dense N ids c) ≤ length (gap_bits 0 (coded_ids dense N ids))
+    coding_room = omega (arith, ap length so.all ∙ length-append done (bits_from dense N ids c))
+
     pub coding_end : Gave dense N ids c None → gap_bits 0 (coded_ids dense N ids) ≡ done
-    unfolding gap_bits
-    coding_end e = so.all ∙ ap (λ (l : List ℕ). done ++ gap_bits c.from l) e ∙ append-nil done
+    coding_end e = so.all ∙ ap (λ (l : List Bool). done ++ l) (no_bits dense N ids c e) ∙ append-nil done
 
     module _ (id : ℕ) (next : Cursor) (gave : Gave dense N ids c (Some (record { id = id; next = next }))) where
-      next_bits : gap_bits c.from (coded_from dense N ids c) ≡ delta (id - c.from) ++ gap_bits next.from (coded_from dense N ids next)
-      unfolding gap_bits
-      next_bits = ap (gap_bits c.from) gave.0 ∙ ap (λ (n : ℕ). delta (id - c.from) ++ gap_bits n (coded_from dense N ids next)) (sym gave.3)
-
       pub coding_next : Coding dense N ids next (done ++ delta (id - c.from))
-      coding_next = record {
-        ahead = gave.4;
-        all = so.all ∙ ap (λ (l : List Bool). done ++ l) next_bits ∙ sym (append_assoc done (delta (id - c.from)) (gap_bits next.from (coded_from dense N ids next)));
-      }
-
-      -- there is room for the next code
-      pub coding_room : length done + length (delta (id - c.from)) ≤ length (gap_bits 0 (coded_ids dense N ids))
-      coding_room =
-          omega (arith, ap length so.all ∙ length-append done (gap_bits c.from (coded_from dense N ids c)), ap length next_bits ∙ length-append (delta (id - c.from)) (gap_bits next.from (coded_from dense N ids next)))
+      coding_next = coding_on next (delta (id - c.from)) (next_bits dense N ids c id next gave) gave.4
 
       -- where the bits of all ids stand behind one another, the next code is read
       pub coding_read : (bits left rest : List Bool) → bits ≡ done ++ left → bits ≡ gap_bits 0 (coded_ids dense N ids) ++ rest → (more : List Bool) × (read_delta left ≡ got (id - c.from) more)

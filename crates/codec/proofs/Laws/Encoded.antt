@@ -1,18 +1,18 @@
 -- Laws of writing a set: the bits of its body by kind, its payload, and its record.
 use Prim.Native.Nat.{ℕ, ◌+◌, ◌-◌, ◌^◌, ◌≤◌, ◌<◌}
-use mathlib.Core.Path.{◌≡◌, refl, sym, ap, ap₂, ◌∙◌}
+use mathlib.Core.Path.{◌≡◌, refl, sym, ap, ◌∙◌}
 use mathlib.Core.Bool.{Bool, true, false}
 use mathlib.Core.List.{List, [], ◌∷◌, ◌++◌}
 use native.Mathlib.Omega.{arith}
 use borrow.Rule.Slice.PartMut.{put_mid}
-use lib.ListN.{length, take, drop, set, length-append}
+use lib.ListN.{length, take, set, length-append}
 use lib.Seq.{take_all}
 use lib.Dec.{eqb, ltb}
 use borrow.Author.Tests.{ltb-false, eqb-false}
 use Rattle.base.specs.Parts.{over}
 use Rattle.base.proofs.Bools.{or_none}
 use Rattle.base.proofs.Parts.{length_over}
-use Rattle.codec.specs.Bits.{low_bits, bits_of, pack_bits, bytes_for}
+use Rattle.codec.specs.Bits.{low_bits, bits_of, pack_bits}
 use Rattle.codec.specs.Codes.{delta}
 use Rattle.codec.specs.Prefix.{prefix_of}
 use Rattle.codec.specs.Sets.{Within, map_bits, gap_bits, Regime, regime, body_bits, set_bits, encode_set}

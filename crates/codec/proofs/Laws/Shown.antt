@@ -1,19 +1,17 @@
 -- Laws of a number that shows the bits at a place.
 use Prim.Native.Nat.{ℕ, zero, suc, ◌+◌, ◌-◌, ◌*◌, ◌/◌, ◌%◌, ◌^◌, ◌≤◌, ◌<◌}
 use mathlib.Core.Path.{◌≡◌, refl, sym, ap, ◌∙◌, subst}
-use mathlib.Core.Bool.{Bool, true, false}
-use mathlib.Core.List.{List, [], ◌∷◌, ◌++◌, append_assoc}
+use mathlib.Core.Bool.{Bool, true}
+use mathlib.Core.List.{List, ◌∷◌, ◌++◌, append_assoc}
 use native.Mathlib.Nat.{pow-suc}
 use native.Mathlib.Omega.{arith}
 use lib.ListN.{length, take, drop, replicate, take-append-drop, length-drop}
 use lib.Seq.{drop-drop, drop_at, take_at, length-take-le}
 use lib.Count.{count_trailing_zeros, under}
-use lib.Pow.{pow_pos, shr-shr}
-use Rattle.std.proofs.lemmas.List.{drop-take}
 use Rattle.std.proofs.Math.Seq.{take-add}
 use Rattle.std.specs.Prelude.{Some}
 use Rattle.codec.specs.Bits.{is_one, low_bits, bits_of}
-use Rattle.codec.specs.Codes.{delta, got, read_delta}
+use Rattle.codec.specs.Codes.{delta, read_delta}
 use Rattle.codec.specs.Inside.Places.{ReadCodeAt}
 use Rattle.codec.specs.Inside.Windows.{Shown}
 use Rattle.codec.proofs.Laws.Low.{length_low, low_add, length_bits}

@@ -2,7 +2,7 @@
 use mathlib.Core.Path.{◌≡◌, refl, ap, ◌∙◌, subst, sym}
 use mathlib.Core.Bool.{Bool, true, false, cond, ◌&&◌, ◌||◌}
 use mathlib.Core.List.{List, [], ◌∷◌}
-use Prim.Native.Nat.{ℕ, zero, suc, ◌+◌, ◌-◌, ◌*◌, ◌/◌, ◌%◌, ◌^◌, ◌≤◌, ◌<◌}
+use Prim.Native.Nat.{ℕ, zero, suc, ◌+◌, ◌-◌, ◌*◌, ◌/◌, ◌%◌, ◌^◌, ◌<◌}
 use native.Mathlib.Omega.{arith}
 use native.Mathlib.Nat.{add-zero, zero-add, add-suc, suc-add, le_of_suc-le-suc, not-suc-le-zero}
 use lib.ListN.{length, get_or}
@@ -12,6 +12,7 @@ use Rattle.base.proofs.Bools.{and_true, false_true}
 use Rattle.codec.specs.Bits.{low_bits}
 use Rattle.codec.specs.Codes.{high_bit, high_in, gamma}
 use Rattle.codec.specs.Inside.Windows.{Head, IsEntry}
+use Rattle.codec.specs.Inside.Writers.{ShortOf}
 use Rattle.codec.proofs.Laws.Low.{low_below}
 
 -- the test passes at each entry and its place, counted from i
@@ -33,8 +34,9 @@ at f xs t k h = rw zero-add at (from f xs 0 t k h)
 abbrev pub lens : List ℕ
 lens = 1 ∷ 4 ∷ 5 ∷ 8 ∷ 9 ∷ 10 ∷ 11 ∷ 14 ∷ 15 ∷ 16 ∷ 17 ∷ 18 ∷ 19 ∷ 20 ∷ 21 ∷ 24 ∷ 25 ∷ 26 ∷ 27 ∷ 28 ∷ 29 ∷ []
 
-abbrev pub gammas : List ℕ
-gammas = 1 ∷ 2 ∷ 6 ∷ 4 ∷ 12 ∷ 20 ∷ 28 ∷ 8 ∷ 24 ∷ 40 ∷ 56 ∷ 72 ∷ 88 ∷ 104 ∷ 120 ∷ 16 ∷ 48 ∷ 80 ∷ 112 ∷ 144 ∷ 176 ∷ []
+abbrev pub shorts : List ℕ
+shorts =
+    1 ∷ 14 ∷ 26 ∷ 252 ∷ 500 ∷ 1004 ∷ 2020 ∷ 16376 ∷ 32744 ∷ 65496 ∷ 131016 ∷ 262072 ∷ 524200 ∷ 1048472 ∷ 2097032 ∷ 16777200 ∷ 33554384 ∷ 67108784 ∷ 134217616 ∷ 268435312 ∷ 536870736 ∷ []
 
 unfoldable long_is : ℕ → ℕ → Bool
 long_is k x = eqb x (2 * high_bit (k + 1) + 1 + k) && ltb x 30
@@ -64,14 +66,26 @@ alike_same (true ∷ cs) (false ∷ bs) e = false_true e
 alike_same (false ∷ cs) (true ∷ bs) e = false_true e
 alike_same (false ∷ cs) (false ∷ bs) e = ap (λ (l : List Bool). false ∷ l) (alike_same cs bs e)
 
-unfoldable codes : ℕ → ℕ → Bool
-codes k x = alike (low_bits (2 * high_bit (k + 1) + 1) x) (gamma k) && ltb x (2 ^ (2 * high_bit (k + 1) + 1))
+-- the gamma code that an entry is short of
+abbrev code_at : ℕ → ℕ → ℕ
+code_at k x = 2 ^ (2 * high_bit (k + 1) + 1 + k) - x
 
-pub gamma_is : (k : ℕ) → k < 21 → (low_bits (2 * high_bit (k + 1) + 1) (get_or gammas k 0) ≡ gamma k) × (get_or gammas k 0 < 2 ^ (2 * high_bit (k + 1) + 1))
+unfoldable codes : ℕ → ℕ → Bool
+codes k x = alike (low_bits (2 * high_bit (k + 1) + 1) (code_at k x)) (gamma k) && ltb (code_at k x) (2 ^ (2 * high_bit (k + 1) + 1)) && leb x (2 ^ (2 * high_bit (k + 1) + 1 + k))
+
+pub short_is : (k : ℕ) → k < 21 → ShortOf k (get_or shorts k 0)
 unfolding codes alike low_bits gamma high_bit high_in
-gamma_is k h =
-    let t = and_true (alike (low_bits (2 * high_bit (k + 1) + 1) (get_or gammas k 0)) (gamma k)) (ltb (get_or gammas k 0) (2 ^ (2 * high_bit (k + 1) + 1))) (at codes gammas refl k h) in
-    (alike_same (low_bits (2 * high_bit (k + 1) + 1) (get_or gammas k 0)) (gamma k) t.0, ltb-true (get_or gammas k 0) (2 ^ (2 * high_bit (k + 1) + 1)) t.1)
+short_is k h =
+    let x : ℕ = get_or shorts k 0 in
+    let n : ℕ = 2 * high_bit (k + 1) + 1 in
+    let t = and_true _ (leb x (2 ^ (n + k))) (at codes shorts refl k h) in
+    let u = and_true (alike (low_bits n (code_at k x)) (gamma k)) (ltb (code_at k x) (2 ^ n)) t.0 in
+    record {
+      code = code_at k x;
+      is = alike_same (low_bits n (code_at k x)) (gamma k) u.0;
+      small = ltb-true (code_at k x) (2 ^ n) u.1;
+      sum = omega (arith, leb-true x (2 ^ (n + k)) t.1);
+    }
 
 -- ---- the codes by their first nine bits
 

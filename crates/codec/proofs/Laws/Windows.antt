@@ -1,14 +1,13 @@
 -- Laws of codes at the low end of a number, and of a number read from eight bytes.
 use Prim.Native.Nat.{ℕ, zero, suc, ◌+◌, ◌-◌, ◌*◌, ◌/◌, ◌%◌, ◌^◌, ◌≤◌, ◌<◌}
 use mathlib.Core.Path.{◌≡◌, refl, sym, ap, ap₂, ◌∙◌, subst}
-use mathlib.Core.Bool.{Bool, true, false}
+use mathlib.Core.Bool.{Bool, false}
 use mathlib.Core.List.{List, [], ◌∷◌, ◌++◌, append_assoc, append-nil}
-use native.Mathlib.Nat.{mul_comm, div-div-eq-div-mul, pow-suc, mod-lt, suc-add, zero-add, lt_of_lt_of_le}
+use native.Mathlib.Nat.{pow-suc, mod-lt, lt_of_lt_of_le}
 use native.Mathlib.Numerals.{add-one}
 use native.Mathlib.Omega.{arith}
 use lib.ListN.{length, take, drop, get_or, replicate, length-append, length-drop, take-append-drop, replicate-append-replicate}
 use lib.Seq.{get_or-append-add, drop-cons, drop_at, take_at, drop-drop, take-append-le, drop-append-le}
-use lib.Count.{count_trailing_zeros, under}
 use lib.Pow.{pow_pos, pow_mono}
 use Rattle.codec.specs.Bits.{low_bits, value_of, bits_of, AreBytes}
 use Rattle.codec.specs.Codes.{high_bit, gamma, delta, got, read_delta}

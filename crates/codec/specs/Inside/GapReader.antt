@@ -1,5 +1,5 @@
 -- Reading ids that are coded as distances: how far it came, and what stands there.
-use Rattle.std.specs.Prelude.{ℕ, ◌+◌, ◌-◌, ◌*◌, ◌<◌, ◌≤◌, ◌≡◌, Option, Some, None, List, length, take, drop}
+use Rattle.std.specs.Prelude.{ℕ, ◌+◌, ◌-◌, ◌*◌, ◌≤◌, ◌≡◌, Option, Some, None, List, length, take, drop}
 use Rattle.base.specs.Parts.{over}
 use Rattle.codec.specs.Bits.{bits_of}
 use Rattle.codec.specs.Sets.{ReadIds, none, read_gaps}

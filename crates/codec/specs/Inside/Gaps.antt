@@ -2,7 +2,9 @@
 use Rattle.std.specs.Prelude.{ℕ, zero, suc, ◌+◌, ◌-◌, ◌*◌, ◌≤◌, ◌<◌, ◌≡◌, Bool, true, false, not, Option, Some, None, List, [], ◌∷◌, ◌++◌, map, length, take, drop, get_or, eqb}
 use Rattle.base.specs.Parts.{over}
 use Rattle.codec.specs.Bits.{bits_of, digit}
-use Rattle.codec.specs.Sets.{Within, map_bits, ids_of, absent, ReadIds, given, none}
+use Rattle.codec.specs.Sets.{Within, map_bits, ids_of, absent, gap_bits, ReadIds, given, none}
+use Rattle.codec.specs.Inside.Writers.{Wrote}
+use Rattle.codec.specs.declared.bits.BitWriter.{BitWriter}
 use Rattle.codec.specs.declared.gaps.Cursor.{Cursor}
 use Rattle.codec.specs.declared.gaps.NextId.{NextId}
 
@@ -44,12 +46,27 @@ Gave dense N ids c (Some g) =
     (coded_from dense N ids c ≡ g.id ∷ coded_from dense N ids g.next) × (c.from ≤ g.id) × (g.id < N) × (g.next.from ≡ g.id + 1) × Ahead N ids g.next
 Gave dense N ids c None = coded_from dense N ids c ≡ []
 
--- ---- readers
-
 -- k numbers from `from` on
 unfoldable pub numbers : ℕ → ℕ → List ℕ
 numbers from zero = []
 numbers from (suc k) = from ∷ numbers (from + 1) k
+
+-- the cursor behind the next eight ids, where they go up by one from its number; or nothing is said
+abbrev pub GaveEight : Bool → ℕ → List ℕ → Cursor → Option Cursor → Type 0
+GaveEight dense N ids c (Some next) = (coded_from dense N ids c ≡ numbers c.from 8 ++ coded_from dense N ids next) × (next.from ≡ c.from + 8) × Ahead N ids next
+GaveEight dense N ids c None = Unit {0}
+
+-- the bits of the ids that a cursor has yet to give
+abbrev pub bits_from : Bool → ℕ → List ℕ → Cursor → List Bool
+bits_from dense N ids c = gap_bits c.from (coded_from dense N ids c)
+
+-- the next ids written, and the cursor behind them; or all that were left
+abbrev pub WroteFrom : Bool → ℕ → List ℕ → BitWriter → BitWriter → Cursor → Option Cursor → Type 0
+WroteFrom dense N ids w r c (Some next) =
+    (bits : List Bool) × Wrote w r bits × (bits_from dense N ids c ≡ bits ++ bits_from dense N ids next) × (c.from < next.from) × Ahead N ids next
+WroteFrom dense N ids w r c None = Wrote w r (bits_from dense N ids c)
+
+-- ---- readers
 
 -- the ids of an answer
 abbrev pub ids_in : ReadIds → List ℕ

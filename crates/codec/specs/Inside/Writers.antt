@@ -1,10 +1,9 @@
 -- What a bit writer holds.
 use Rattle.std.specs.Prelude.{ℕ, ◌+◌, ◌*◌, ◌≤◌, ◌<◌, ◌^◌, ◌≡◌, Bool, List, ◌++◌, length, take}
 use Rattle.codec.specs.Bits.{bits_of, low_bits, AreBytes}
-use Rattle.codec.specs.Codes.{high_bit}
+use Rattle.codec.specs.Codes.{high_bit, gamma}
 use Rattle.codec.specs.declared.bits.BitWriter.{BitWriter}
 use Rattle.codec.specs.declared.codes.Codeword.{Codeword}
-use Rattle.codec.specs.declared.codes.Split.{Split}
 
 -- the bits written: those of the whole bytes in the buffer, then the pending ones
 abbrev pub stream_of : BitWriter → List Bool
@@ -35,8 +34,9 @@ pub record CodewordOf (w : Codeword) (bits : List Bool) : Type 0 where
   pub code : low_bits w.count w.value ≡ bits
   pub small : w.value < 2 ^ w.count
 
--- a number's highest set bit, and the number without it
-pub record SplitOf (n : ℕ) (r : Split) : Type 0 where
-  pub bit : r.bit ≡ high_bit n
-  pub sum : r.low + 2 ^ r.bit ≡ n
-  pub small : r.low < 2 ^ r.bit
+-- bit b behind as many bits as its gamma code has, less that code
+pub record ShortOf (b short : ℕ) : Type 0 where
+  pub code : ℕ
+  pub is : low_bits (2 * high_bit (b + 1) + 1) code ≡ gamma b
+  pub small : code < 2 ^ (2 * high_bit (b + 1) + 1)
+  pub sum : short + code ≡ 2 ^ (2 * high_bit (b + 1) + 1 + b)

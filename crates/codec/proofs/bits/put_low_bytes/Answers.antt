@@ -1,10 +1,8 @@
 -- `bits::put_low_bytes` meets its contract.
 use Prim.Native.Nat.{◌+◌, ◌-◌}
-use mathlib.Core.Path.{sym, ap, ◌∙◌}
+use mathlib.Core.Path.{ap, ◌∙◌}
 use native.Mathlib.Omega.{arith}
 use lib.ListN.{take}
-use lib.Seq.{take_all}
-use Rattle.std.specs.Int.{w64, to_le_bytes}
 use Rattle.codec.proofs.Laws.Bits.{placed}
 use Rattle.codec.proofs.bits.put_low_bytes.Goals as goal
 

@@ -1,10 +1,9 @@
 -- `codes::delta_of` meets its contract: a gamma code, and as many bits as it says.
-use Prim.Native.Nat.{ℕ, ◌+◌, ◌-◌, ◌*◌, ◌/◌, ◌%◌, ◌^◌, ◌≤◌, ◌<◌}
+use Prim.Native.Nat.{ℕ, ◌+◌, ◌-◌, ◌/◌, ◌%◌, ◌^◌}
 use mathlib.Core.Path.{◌≡◌, sym, ap, ◌∙◌, subst}
-use native.Mathlib.Nat.{mod-lt}
 use native.Mathlib.Omega.{arith}
 use lib.Bits.{bit_and, and_mask}
-use lib.Pow.{pow_pos, pow_mono}
+use lib.Pow.{pow_pos}
 use Rattle.codec.specs.Bits.{low_bits}
 use Rattle.codec.specs.Codes.{delta}
 use Rattle.codec.specs.Inside.Windows.{Head}

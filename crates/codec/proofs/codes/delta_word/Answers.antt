@@ -1,55 +1,75 @@
 -- `codes::delta_word` meets its contract: the gamma code of the highest set bit, and the bits below it.
 use Prim.Native.Nat.{ℕ, ◌+◌, ◌-◌, ◌*◌, ◌%◌, ◌^◌, ◌≤◌, ◌<◌}
 use mathlib.Core.Path.{◌≡◌, sym, ap, ◌∙◌, subst}
-use native.Mathlib.Nat.{lt_of_lt_of_le}
+use native.Mathlib.Nat.{add-mul}
 use native.Mathlib.Omega.{arith}
-use lib.Pow.{pow_mono}
+use lib.Pow.{pow-add}
 use Rattle.codec.specs.Bits.{low_bits}
-use Rattle.codec.specs.Codes.{high_bit, gamma, delta}
-use Rattle.codec.specs.Inside.Writers.{SplitOf, CodewordOf}
-use Rattle.codec.specs.declared.codes.Split.{Split}
+use Rattle.codec.specs.Codes.{high_bit, delta}
+use Rattle.codec.specs.Inside.Writers.{ShortOf, CodewordOf}
+use Rattle.codec.proofs.Laws.Codes.{high_log}
 use Rattle.codec.proofs.Laws.Bits.{delta_low, high_lt, joined_lt, shift_fits}
 use Rattle.codec.proofs.codes.delta_word.Goals as goal
 
-bit_lt : (v : ℕ) (r : Split) → v ≤ 2 ^ 20 → SplitOf (v + 1) r → r.bit < 21
-bit_lt v r most split = rw split.bit (high_lt (v + 1) 21 (omega arith) (omega arith))
+bit_lt : (v b m : ℕ) → v + 1 < 2 ^ m → 2 ^ b ≤ v + 1 → v + 1 < 2 * 2 ^ b → b < m
+bit_lt v b m h le gt = subst (λ (n : ℕ). n < m) (sym (high_log (v + 1) b le gt)) (high_lt (v + 1) m (omega arith) h)
 
-module _ (v : ℕ) (r : Split) (count g : ℕ) (most : v ≤ 2 ^ 20) (split : SplitOf (v + 1) r) (long : (count ≡ 2 * high_bit (r.bit + 1) + 1 + r.bit) × (count ≤ 29))
-    (head : (low_bits (2 * high_bit (r.bit + 1) + 1) g ≡ gamma r.bit) × (g < 2 ^ (2 * high_bit (r.bit + 1) + 1))) where
-  k-is : 2 * high_bit (r.bit + 1) + 1 ≡ count - r.bit
-  k-is = omega (arith, long.0)
+module _ (v b count short : ℕ) (le : 2 ^ b ≤ v + 1) (gt : v + 1 < 2 * 2 ^ b) (long : (count ≡ 2 * high_bit (b + 1) + 1 + b) × (count ≤ 29)) (of : ShortOf b short) where
+  abbrev k : ℕ
+  k = 2 * high_bit (b + 1) + 1
 
-  small : g < 2 ^ (count - r.bit)
-  small = subst (λ (k : ℕ). g < 2 ^ k) k-is head.1
+  abbrev low : ℕ
+  low = v + 1 - 2 ^ b
 
-  shl : r.low * 2 ^ (count - r.bit) % 2 ^ 64 ≡ r.low * 2 ^ (count - r.bit)
-  shl = shift_fits (count - r.bit) r.bit r.low split.small (omega (arith, long.0, long.1))
+  sum : low + 2 ^ b ≡ v + 1
+  sum = omega (arith, le)
 
-  all : count ≡ count - r.bit + r.bit
-  all = omega (arith, long.0)
+  small : low < 2 ^ b
+  small = omega (arith, le, gt)
 
-  value_lt : g + r.low * 2 ^ (count - r.bit) < 2 ^ count
-  value_lt = subst (λ (k : ℕ). g + r.low * 2 ^ (count - r.bit) < 2 ^ k) (sym all) (joined_lt (count - r.bit) r.bit g r.low small split.small)
+  more : count - b ≡ k
+  more = omega (arith, long.0)
 
-  sum_fits : g + r.low * 2 ^ (count - r.bit) % 2 ^ 64 < 2 ^ 64
-  sum_fits = rw shl (lt_of_lt_of_le value_lt (pow_mono {j = 64} (omega (arith, long.1))))
+  up : v + 1 < 2 ^ (b + 1)
+  up = omega (arith, gt, pow-add 2 b 1)
 
-  word : CodewordOf (record { value = g + r.low * 2 ^ (count - r.bit) % 2 ^ 64; count = count }) (delta v)
-  word = record {
-    code = rw shl (ap (λ (k : ℕ). low_bits k (g + r.low * 2 ^ (count - r.bit))) all ∙ delta_low v r.bit r.low (count - r.bit) g split.bit split.sum split.small small (subst (λ (k : ℕ). low_bits k g ≡ gamma r.bit) k-is head.0));
-    small = rw shl value_lt;
-  }
+  parts : (v + 1) * 2 ^ k ≡ low * 2 ^ k + 2 ^ (k + b)
+  parts = ap (λ (n : ℕ). n * 2 ^ k) (sym sum) ∙ add-mul low (2 ^ b) (2 ^ k) ∙ ap (λ (n : ℕ). low * 2 ^ k + n) (sym (pow-add 2 b k) ∙ ap (λ (n : ℕ). 2 ^ n) (omega arith))
+
+  shl : (v + 1) * 2 ^ (count - b) % 2 ^ 64 ≡ low * 2 ^ k + 2 ^ (k + b)
+  shl = ap (λ (n : ℕ). (v + 1) * 2 ^ n % 2 ^ 64) more ∙ shift_fits k (b + 1) (v + 1) up (omega (arith, long.0, long.1)) ∙ parts
+
+  room : short ≤ (v + 1) * 2 ^ (count - b) % 2 ^ 64
+  room = omega (arith, shl, of.sum)
+
+  value : (v + 1) * 2 ^ (count - b) % 2 ^ 64 - short ≡ of.code + low * 2 ^ k
+  value = omega (arith, shl, of.sum)
+
+  word : CodewordOf (record { value = (v + 1) * 2 ^ (count - b) % 2 ^ 64 - short; count = count }) (delta v)
+  word =
+      let all : k + b ≡ count = omega (arith, long.0) in
+      record {
+        code = rw value (ap (λ (n : ℕ). low_bits n (of.code + low * 2 ^ k)) (sym all) ∙ delta_low v b low k of.code (high_log (v + 1) b le gt) sum small of.small of.is);
+        small = rw value (subst (λ (n : ℕ). of.code + low * 2 ^ k < 2 ^ n) all (joined_lt k b of.code low of.small small));
+      }
+
+  -- one bit fewer where the number is not the largest
+  fewer : v + 1 < 2 ^ 20 → count ≤ 28
+  fewer h = omega (arith, long.0, bit_lt v b 20 h le gt, high_lt (b + 1) 5 (omega arith) (omega (arith, bit_lt v b 20 h le gt)))
 
 pub top_len-count-requires : goal.top_len-count-requires
-top_len-count-requires c = omega (arith, bit_lt c.args.v c.split_top-s.result c.requires c.split_top-s.ensures)
+top_len-count-requires c = omega (arith, bit_lt c.args.v c.ilog2-bit.result 21 (omega arith) c.ilog2-bit.ensures.power_le c.ilog2-bit.ensures.next_power_gt)
 
-pub gamma_value-requires : goal.gamma_value-requires
-gamma_value-requires c = omega (arith, bit_lt c.args.v c.split_top-s.result c.requires c.split_top-s.ensures)
+pub short_of-requires : goal.short_of-requires
+short_of-requires c = omega (arith, bit_lt c.args.v c.ilog2-bit.result 21 (omega arith) c.ilog2-bit.ensures.power_le c.ilog2-bit.ensures.next_power_gt)
 
-pub overflow_add-result : goal.overflow_add-result
-overflow_add-result c =
-    record { fits = sum_fits c.args.v c.split_top-s.result c.top_len-count.result c.gamma_value.result c.requires c.split_top-s.ensures c.top_len-count.ensures c.gamma_value.ensures }
+pub overflow_sub-result-2 : goal.overflow_sub-result-2
+overflow_sub-result-2 c = rw c.from.ensures (room c.args.v c.ilog2-bit.result c.top_len-count.result c.short_of.result c.ilog2-bit.ensures.power_le c.ilog2-bit.ensures.next_power_gt c.top_len-count.ensures c.short_of.ensures)
 
 pub returns : goal.returns
 returns c =
-    (word c.args.v c.split_top-s.result c.top_len-count.result c.gamma_value.result c.requires c.split_top-s.ensures c.top_len-count.ensures c.gamma_value.ensures, c.top_len-count.ensures.1)
+    let le = c.ilog2-bit.ensures.power_le in
+    let gt = c.ilog2-bit.ensures.next_power_gt in
+    let long = c.top_len-count.ensures in
+    let of = c.short_of.ensures in
+    (rw c.from.ensures (word c.args.v c.ilog2-bit.result c.top_len-count.result c.short_of.result le gt long of), long.1, fewer c.args.v c.ilog2-bit.result c.top_len-count.result c.short_of.result le gt long of)

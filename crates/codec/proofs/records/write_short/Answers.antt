@@ -25,8 +25,7 @@ returns c =
     let s = c.args.set in
     let r : ℕ = c.encode_source_set-len.result in
     let few = short (goal.at.returns c).After-encode_source_set-len in
-    let part : c.copy_from_slice.new.self ≡ encode_set s.colors.n s.ids.now = c.copy_from_slice.ensures.after ∙ c.encode_source_set-len.ensures.1 in
-    (
+    let part : c.copy_from_slice.new.self ≡ encode_set s.colors.n s.ids.now = c.copy_from_slice.ensures.after ∙ c.encode_source_set-len.ensures.1 in (
       short_length s.colors.n r s.ids.now c.encode_source_set-len.ensures.0 few,
       omega (arith, few),
       ap (λ (l : List ℕ). set (put_mid 1 (r + 1 - 1) c.args.out.now l) 0 r) part ∙ short_put s.colors.n r s.ids.now c.encode_source_set-len.ensures.0 few c.args.out.now (r + 1 - 1) (omega (arith, few)) (omega arith),

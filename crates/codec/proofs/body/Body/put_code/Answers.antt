@@ -1,7 +1,5 @@
 -- `body::Body::put_code` meets its contract.
-use mathlib.Core.Path.{sym}
 use native.Mathlib.Omega.{arith}
-use Rattle.codec.specs.Inside.GapReader.{ReadTo}
 use Rattle.codec.proofs.Laws.GapReader.{none_left, code_high, code_on}
 use Rattle.codec.proofs.body.Body.put_code.Goals as goal
 

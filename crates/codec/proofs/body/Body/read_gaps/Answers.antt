@@ -1,6 +1,4 @@
 -- `body::Body::read_gaps` meets its contract.
-use mathlib.Core.Path.{sym, subst}
-use native.Mathlib.Omega.{arith}
 use Rattle.codec.proofs.Laws.GapReader.{read_start, read_all, read_none}
 use Rattle.codec.proofs.body.Body.read_gaps.Goals as goal
 

@@ -1,14 +1,6 @@
 -- `body::Body::read_run` meets its contract: the low bits of the number are ones, and each is a code.
-use Prim.Native.Nat.{ℕ, ◌+◌, ◌-◌, ◌*◌, ◌≤◌, ◌<◌}
-use mathlib.Core.Path.{◌≡◌, ap, ◌∙◌}
-use mathlib.Core.Bool.{Bool, true}
-use mathlib.Core.List.{List, ◌++◌}
+use Prim.Native.Nat.{ℕ}
 use native.Mathlib.Omega.{arith}
-use lib.ListN.{length, drop, replicate}
-use Rattle.codec.specs.Bits.{bits_of}
-use Rattle.codec.specs.Inside.Windows.{Shown}
-use Rattle.codec.specs.declared.body.Body.{Body}
-use Rattle.codec.specs.declared.gap_reader.Reached.{Reached}
 use Rattle.codec.proofs.Laws.Shown.{shown_ones, one_at_least}
 use Rattle.codec.proofs.Laws.GapReader.{none_left, run_high, run_on}
 use Rattle.codec.proofs.body.Body.read_run.Goals as goal

@@ -1,5 +1,4 @@
 -- `body::Body::read_three` meets its contract: each code is read behind those before it.
-use native.Mathlib.Omega.{arith}
 use Rattle.codec.proofs.body.Body.read_three.Goals as goal
 
 pub returns-in_err-s-2 : goal.returns-in_err-s-2
