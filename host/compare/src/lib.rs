@@ -9,6 +9,7 @@
 //! - [`calls`]: random calls of the store; [`lists`]: lists of them with what both models of the store answer; [`cycles`] and
 //!   [`merging`]: what they do with cycles and with equal neighbours; [`commands`] and [`sessions`]: a list as the programs
 //!   `roadfinch` and `sessions` read it, and what they must answer.
+//! - [`shows`]: what a show costs by its unitig's runs; [`picture`]: a table of the benchmark as bars.
 
 pub mod calls;
 pub mod checks;
@@ -18,6 +19,7 @@ pub mod files;
 pub mod judge;
 pub mod lists;
 pub mod merging;
+pub mod picture;
 pub mod proved;
 pub mod random;
 pub mod recorded;
@@ -25,3 +27,4 @@ pub mod reference;
 pub mod run;
 pub mod sections;
 pub mod sessions;
+pub mod shows;

@@ -46,6 +46,15 @@ impl Random {
         ids
     }
 
+    /// A set of `count` runs of `len` ids below `n`, ascending, with an absent id or more between two runs.
+    pub fn clusters(&mut self, n: u32, count: u32, len: u32) -> Vec<u32> {
+        // Distinct places of shrunken runs, of one id each and no room between; then each is put so much further on as those
+        // before it take.
+        let places = self.set(n - count * len + 1, count);
+        let starts = places.iter().zip(0..).map(|(place, i)| place + i * len);
+        starts.flat_map(|start| start..start + len).collect()
+    }
+
     /// A coordinate: often one of a few, so that neighbours are equal, sometimes any of 40 bits.
     pub fn coordinate(&mut self) -> u64 {
         match self.below(8) {

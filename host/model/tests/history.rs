@@ -22,7 +22,7 @@ fn written(n: u32, most: usize, written: fn(u32, &[u32]) -> Vec<u8>) -> Vec<(Vec
             for set in &sets {
                 let (list, bytes) = &all[k];
                 all.push((
-                    [&list[..], &[set.clone()]].concat(),
+                    [&list[..], std::slice::from_ref(set)].concat(),
                     [&bytes[..], &written(n, set)].concat(),
                 ));
             }

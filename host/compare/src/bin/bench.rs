@@ -1,9 +1,12 @@
 //! The benchmark: `bench` measures the reference and the proved code on the same inputs, in turn, prints a table and writes
-//! it to docs/BENCHMARK.md. Built without the archive it measures the reference alone and writes nothing.
+//! it to docs/BENCHMARK.md, with a picture, docs/benchmark.svg. The store's show is measured through the program `roadfinch`,
+//! which is built where it is missing or old. Built without the archive it measures the reference alone and writes nothing.
 
+use compare::picture::{Bar, picture};
 use compare::proved;
 use compare::random::Random;
 use compare::run::grouped;
+use compare::shows;
 use model::MAX_VERTICES;
 use model::records::record_of;
 use model::runs::{coordinate, has_equal_neighbours, merged, offset, pack};
@@ -20,12 +23,15 @@ const ROUNDS: usize = 15;
 /// A round repeats its call until it takes about this long, so that the clock's grain doesn't show.
 const ROUND_SECONDS: f64 = 0.004;
 
-/// One row of the table.
+/// What a time is told by: a unit, and how many of them a call has.
+type Unit = (&'static str, usize);
+
+/// One measurement: a row of the table for each of its units.
 struct Row {
     operation: &'static str,
     input: String,
-    unit: &'static str,
-    /// Nanoseconds for one unit.
+    units: Vec<Unit>,
+    /// Seconds for one call.
     reference: f64,
     proved: Option<f64>,
 }
@@ -62,7 +68,7 @@ impl Table {
         &mut self,
         operation: &'static str,
         input: String,
-        (unit, units): (&'static str, usize),
+        units: &[Unit],
         mut reference: impl FnMut(),
         mut proved: impl FnMut(),
     ) {
@@ -73,13 +79,12 @@ impl Table {
             &mut nothing
         };
         let (first, second) = shortest(&mut reference, second);
-        let each = |seconds: f64| seconds * 1e9 / units as f64;
         self.rows.push(Row {
             operation,
             input,
-            unit,
-            reference: each(first),
-            proved: proved::HERE.then_some(each(second)),
+            units: units.to_vec(),
+            reference: first,
+            proved: proved::HERE.then_some(second),
         });
         let text = self.rows.last().map_or(String::new(), Row::text);
         print!("{text}");
@@ -92,6 +97,17 @@ impl Table {
         }
         text
     }
+
+    /// A bar for each measurement in which the proved code took part.
+    fn bars(&self) -> Vec<Bar> {
+        let bar = |row: &Row| {
+            Some(Bar {
+                label: format!("{}: {}", row.operation, row.input),
+                times: row.reference / row.proved?,
+            })
+        };
+        self.rows.iter().filter_map(bar).collect()
+    }
 }
 
 const HEADING: &str = "| operation | input | ns per | reference | roadfinch | times as fast |\n\
@@ -99,15 +115,23 @@ const HEADING: &str = "| operation | input | ns per | reference | roadfinch | ti
 
 impl Row {
     fn text(&self) -> String {
-        let mut text = format!(
-            "| {} | {} | {} | {:.2} |",
-            self.operation, self.input, self.unit, self.reference
-        );
-        match self.proved {
-            Some(proved) => {
-                let _ = writeln!(text, " {proved:.2} | {:.1} |", self.reference / proved);
-            }
-            None => text.push_str(" - | - |\n"),
+        let mut text = String::new();
+        for &(unit, count) in &self.units {
+            let each = |seconds: f64| seconds * 1e9 / count as f64;
+            let _ = write!(
+                text,
+                "| {} | {} | {unit} | {:.2} |",
+                self.operation,
+                self.input,
+                each(self.reference)
+            );
+            let _ = match self.proved {
+                Some(proved) => {
+                    let times = self.reference / proved;
+                    writeln!(text, " {:.2} | {times:.1} |", each(proved))
+                }
+                None => writeln!(text, " - | - |"),
+            };
         }
         text
     }
@@ -130,21 +154,18 @@ fn set(
     kind: [&'static str; 2],
     n: u32,
     ids: &[u32],
-    read_unit: (&'static str, usize),
+    what: &str,
+    units: &[Unit],
 ) {
     let record = record_of(n, ids);
-    let input = format!(
-        "N = {}, {} ids",
-        grouped(n.into()),
-        grouped(ids.len() as u64)
-    );
+    let input = format!("N = {}, {what}", grouped(n.into()));
     let mut writer = ColorWorkerWriter::default();
     let mut out = vec![0; record.len()];
     let mut numbers = [0; 2];
     table.row(
         kind[0],
         input.clone(),
-        ("id", ids.len()),
+        units,
         || {
             writer.output.clear();
             color::write_color_record(&mut writer, black_box(ids), n).unwrap();
@@ -165,7 +186,7 @@ fn set(
     table.row(
         kind[1],
         input,
-        read_unit,
+        units,
         || {
             black_box(drive::read_color_record(black_box(&record), n).unwrap());
         },
@@ -194,6 +215,16 @@ fn small_sets(table: &mut Table, count: usize) {
     many_sets(table, 64, &sets, input, ("set", count));
 }
 
+/// Random sets of N = 64 of which few ids are absent.
+fn small_dense_sets(table: &mut Table, count: usize) {
+    let sets = random_sets(64, count, 58..64);
+    let input = format!(
+        "{} sets of N = 64, 1 to 6 ids absent",
+        grouped(count as u64)
+    );
+    many_sets(table, 64, &sets, input, ("set", count));
+}
+
 /// Random sets of one size, so many that their codes aren't foreseen as those of one set are that comes again and again.
 fn sets_in_turn(table: &mut Table, n: u32, len: u32) {
     let count = 50;
@@ -217,13 +248,7 @@ fn random_sets(n: u32, count: usize, sizes: std::ops::Range<u32>) -> Vec<Vec<u32
 }
 
 /// Sets written to one file, and read from it by their starts.
-fn many_sets(
-    table: &mut Table,
-    n: u32,
-    sets: &[Vec<u32>],
-    input: String,
-    unit: (&'static str, usize),
-) {
+fn many_sets(table: &mut Table, n: u32, sets: &[Vec<u32>], input: String, unit: Unit) {
     let mut file = Vec::new();
     let mut starts = vec![0];
     for ids in sets {
@@ -235,7 +260,7 @@ fn many_sets(
     table.row(
         "write records",
         input.clone(),
-        unit,
+        &[unit],
         || {
             writer.output.clear();
             for ids in sets {
@@ -258,7 +283,7 @@ fn many_sets(
     table.row(
         "read records",
         input,
-        unit,
+        &[unit],
         || {
             for &start in &starts[..sets.len()] {
                 let part = &file[start as usize..];
@@ -298,7 +323,7 @@ fn index(table: &mut Table, count: usize) {
     table.row(
         "make index",
         format!("{} records", grouped(count as u64)),
-        ("record", count),
+        &[("record", count)],
         || {
             black_box(drive::index_worker(black_box(&file), count as u32).unwrap());
         },
@@ -331,7 +356,7 @@ fn reverse_and_append(table: &mut Table, count: usize, n: u32) {
     table.row(
         "reverse",
         input.clone(),
-        ("run", count),
+        &[("run", count)],
         || {
             black_box(color::reverse_color_runs(black_box(&list), n));
         },
@@ -349,7 +374,7 @@ fn reverse_and_append(table: &mut Table, count: usize, n: u32) {
     table.row(
         "reverse in place",
         input.clone(),
-        ("run", count),
+        &[("run", count)],
         || {
             color::reverse_color_runs_in_place(black_box(&mut first), n);
         },
@@ -392,7 +417,7 @@ fn append(
     table.row(
         name,
         input,
-        ("run", runs.len()),
+        &[("run", runs.len())],
         || {
             output.truncate(1);
             color::append_color_runs(&mut output, 1, black_box(&list), n, reverse);
@@ -460,7 +485,7 @@ fn rotate(table: &mut Table, count: usize, n: u32, reverse: bool) {
             "rotate"
         },
         format!("{} runs, n = {}", grouped(count as u64), grouped(n.into())),
-        ("run", count),
+        &[("run", count)],
         || {
             let turned = color::rotate_cycle_color_runs(black_box(&list), n, pivot, reverse);
             black_box(turned);
@@ -494,7 +519,7 @@ fn run_bytes(table: &mut Table, count: usize) {
     table.row(
         "write run bytes",
         input.clone(),
-        ("run", count),
+        &[("run", count)],
         || {
             output.clear();
             drive::write_unitig_color_runs(&mut output, black_box(&list)).unwrap();
@@ -514,7 +539,7 @@ fn run_bytes(table: &mut Table, count: usize) {
     table.row(
         "read run bytes",
         input,
-        ("run", count),
+        &[("run", count)],
         || {
             drive::read_unitig_color_runs(black_box(&bytes), &mut read).unwrap();
             black_box(&read);
@@ -537,38 +562,45 @@ fn run_bytes(table: &mut Table, count: usize) {
     }
 }
 
+fn ids_of(ids: &[u32]) -> String {
+    format!("{} ids", grouped(ids.len() as u64))
+}
+
 fn sparse(table: &mut Table, ids: u32) {
     let n = 1_048_576;
     let ids = Random::new(24).set(n, ids);
-    set(
-        table,
-        ["write sparse", "read sparse"],
-        n,
-        &ids,
-        ("id", ids.len()),
-    );
+    let kind = ["write sparse", "read sparse"];
+    set(table, kind, n, &ids, &ids_of(&ids), &[("id", ids.len())]);
+}
+
+/// Runs of 50 ids at random places.
+fn clustered(table: &mut Table, runs: u32) {
+    let n = 1_048_576;
+    let ids = Random::new(28).clusters(n, runs, 50);
+    let what = format!("{} runs of 50 ids", grouped(runs.into()));
+    let kind = ["write clustered", "read clustered"];
+    set(table, kind, n, &ids, &what, &[("id", ids.len())]);
 }
 
 fn bitmap(table: &mut Table, n: u32) {
     let ids = Random::new(25).set(n, n / 2);
-    set(
-        table,
-        ["write bitmap", "read bitmap"],
-        n,
-        &ids,
-        ("bit", n as usize),
-    );
+    let kind = ["write bitmap", "read bitmap"];
+    let units = [("id", ids.len()), ("bit", n as usize)];
+    set(table, kind, n, &ids, &ids_of(&ids), &units);
 }
 
 fn dense(table: &mut Table, n: u32, absent: u32) {
     let ids = Random::new(26).set(n, n - absent);
-    set(
-        table,
-        ["write dense", "read dense"],
-        n,
-        &ids,
-        ("id", ids.len()),
-    );
+    let kind = ["write dense", "read dense"];
+    set(table, kind, n, &ids, &ids_of(&ids), &[("id", ids.len())]);
+}
+
+/// Dense sets with many holes: one id in so many is absent.
+fn holed(table: &mut Table, n: u32, one_in: u32) {
+    let ids = Random::new(26).set(n, n - n / one_in);
+    let what = format!("{}, one in {one_in} absent", ids_of(&ids));
+    let kind = ["write dense", "read dense"];
+    set(table, kind, n, &ids, &what, &[("id", ids.len())]);
 }
 
 /// The proved code alone, in nanoseconds a unit: a whole call, and the same call refused for want of space, which makes every
@@ -600,15 +632,24 @@ fn tests() -> String {
     let mut text =
         String::from("| operation | input | ns per | whole | tests |\n|---|---|---|---:|---:|\n");
     let mut numbers = [0; 2];
-    for (name, n, ids) in [
-        ("sparse", 1_048_576, Random::new(24).set(1_048_576, 1000)),
-        ("dense", 655_360, Random::new(26).set(655_360, 650_360)),
+    let some = |name, n, ids: Vec<u32>| (name, n, ids_of(&ids), ids);
+    for (name, n, what, ids) in [
+        some("sparse", 1_048_576, Random::new(24).set(1_048_576, 1000)),
+        (
+            "clustered",
+            1_048_576,
+            "2,000 runs of 50 ids".to_string(),
+            Random::new(28).clusters(1_048_576, 2000, 50),
+        ),
+        some("dense", 655_360, Random::new(26).set(655_360, 650_360)),
+        (
+            "dense",
+            65_536,
+            "58,983 ids, one in 10 absent".to_string(),
+            Random::new(26).set(65_536, 58_983),
+        ),
     ] {
-        let input = format!(
-            "N = {}, {} ids",
-            grouped(n.into()),
-            grouped(ids.len() as u64)
-        );
+        let input = format!("N = {}, {what}", grouped(n.into()));
         let record = record_of(n, &ids);
         let (mut out, mut back) = (vec![0; record.len()], vec![0; ids.len()]);
         let mut second = 0;
@@ -793,16 +834,24 @@ fn kit() -> String {
 }
 
 fn main() {
+    if proved::HERE {
+        shows::build();
+    }
     let most = MAX_VERTICES;
     println!("one size");
     let mut one = Table::default();
     sparse(&mut one, 1000);
+    clustered(&mut one, 20);
+    clustered(&mut one, 2000);
     bitmap(&mut one, 4096);
     dense(&mut one, 65_536, 500);
+    holed(&mut one, 65_536, 10);
+    holed(&mut one, 65_536, 5);
     sets_in_turn(&mut one, 1_048_576, 1000);
     sets_in_turn(&mut one, 4096, 2048);
     sets_in_turn(&mut one, 65_536, 65_036);
     small_sets(&mut one, 1000);
+    small_dense_sets(&mut one, 1000);
     index(&mut one, 100_000);
     reverse_and_append(&mut one, 100_000, 1_000_000);
     append_merged(&mut one, 100_000, 1_000_000);
@@ -849,10 +898,16 @@ fn main() {
         println!("built without the archive: docs/BENCHMARK.md is not written");
         return;
     }
+    println!("show by its runs");
+    let shown = shows::table();
+    print!("{shown}");
+    println!("what the tests cost");
     let text = format!(
         "# Benchmark
 
 Written by `cargo run --release --bin bench` in `host/`; don't edit it. Processor: {}. Kit: {}.
+
+![Times as fast as the reference](benchmark.svg)
 
 Both sides run in one process on the same inputs, in turn: the reference (the Rust functions copied in `host/oracle`) as
 Rust, the proved code through its C functions. Release builds. The shortest of {ROUNDS} rounds counts, each of as many calls
@@ -876,13 +931,21 @@ fit the processor's caches.
 1,000 runs. The reference fills an array over the vertices; here the cost doesn't depend on them.
 
 {}
+## Show by its runs
+
+A show tests all runs of its unitig and finds the vertex's among them. The reference has no store, and the store no C
+functions: the program `roadfinch` is run as a process on a file of commands. Each unitig has 1,000,000 vertices and evenly
+spaced runs; the sets have one id each, and the vertices shown are random. \"A show\" is the time of such a process less that
+of one that only files the unitigs, divided by its shows: reading the line and printing the answer are in it. \"By its runs\" is
+what is above a show of the unitig of one run. The shortest of {} rounds counts; every answer was compared.
+
+{}
 ## What the tests cost
 
-Where the proved code is slower than the reference, or reads less than twice as fast, the tests are the reason: a refusal
-leaves all lent memory as it was, so a call tests everything before it writes anything, where the reference tests little
-and writes as it goes. \"Tests\" is the same call with no space for its result: it makes every test and is refused (3); reverse in place and make
+Where the proved code is slower than the reference, the tests are the reason: a refusal leaves all lent memory as it was, so a
+call tests everything before it writes anything, where the reference tests little and writes as it goes. \"Tests\" is the same call with no space for its result: it makes every test and is refused (3); reverse in place and make
 index, which test space first or not at all, are refused at their last run (6) or record (4) instead.
-A set with more than 1,024 ids coded as distances is decoded once to test and once to fill; a set of 136 colours or more
+A set with more than 16,384 ids coded as distances is decoded a second time to fill; a set of 136 colours or more
 is measured before its length prefix can be written; make index reads each prefix twice; a piece is tested for sharpness,
 and its equal neighbours are counted, before it is appended.
 
@@ -893,11 +956,18 @@ and its equal neighbours are counted, before it is appended.
         one.text(),
         growth.text(),
         vertices.text(),
+        shows::ROUNDS,
+        shown,
         tests()
     );
-    let path = concat!(env!("CARGO_MANIFEST_DIR"), "/../../docs/BENCHMARK.md");
-    match std::fs::write(path, text) {
-        Ok(()) => println!("written: docs/BENCHMARK.md"),
+    write("BENCHMARK.md", &text);
+    write("benchmark.svg", &picture(&one.bars()));
+}
+
+fn write(name: &str, text: &str) {
+    let path = format!("{}/../../docs/{name}", env!("CARGO_MANIFEST_DIR"));
+    match std::fs::write(&path, text) {
+        Ok(()) => println!("written: docs/{name}"),
         Err(error) => {
             eprintln!("{path}: {error}");
             std::process::exit(1);
