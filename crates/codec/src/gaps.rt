@@ -6,7 +6,7 @@ ghost use Rattle.codec.specs.Bits.{bits_of};
 ghost use Rattle.codec.specs.Codes.{delta};
 ghost use Rattle.codec.specs.Sets.{Within, gap_bits, read_gaps, absent};
 ghost use Rattle.codec.specs.Inside.Writers.{Ready, Wrote};
-ghost use Rattle.codec.specs.Inside.Gaps.{coded_ids, numbers, Ahead, up_in, Skipped, Gave, GaveEight, bits_from, WroteFrom, BitsAt, is_given, Put, Kept, ids_in};
+ghost use Rattle.codec.specs.Inside.Gaps.{coded_ids, numbers, Ahead, up_in, Skipped, Gave, GaveEight, bits_from, CountedFrom, WroteFrom, BitsAt, is_given, Put, Kept, ids_in};
 ghost use Rattle.codec.specs.Inside.Bodies.{gaps_in, IdsAt};
 
 use crate::bits::BitWriter;
@@ -170,14 +170,45 @@ impl CodedIds for Absent {
     }
 }
 
+// So many bits, and the place behind the ids that they code.
+#[derive(Clone, Copy)]
+pub(crate) struct NextBits {
+    pub(crate) count: usize,
+    pub(crate) next: Cursor,
+}
+
+// How many bits the next coded ids take: eight that go up by one, each of which has a code of a single one, or two, or the
+// last. None where there are none.
+#[inline(always)]
+fn next_bits<C: CodedIds>(set: ColorSet, c: Cursor) -> Option<NextBits>
+    requires { Ahead set.colors.n set.ids.now c }
+    ensures { CountedFrom C.dense set.entry.colors.n set.entry.ids.now c result }
+{
+    if let Some(next) = C::next_eight(set, c) {
+        return Some(NextBits { count: 8, next });
+    }
+    let first = C::next_id(set, c)?;
+    let count = crate::codes::delta_len(first.id - c.from);
+    let Some(second) = C::next_id(set, first.next) else {
+        return Some(NextBits {
+            count,
+            next: first.next,
+        });
+    };
+    Some(NextBits {
+        count: count + crate::codes::delta_len(second.id - first.next.from),
+        next: second.next,
+    })
+}
+
 // How many bits the coded ids of a set take.
 pub(crate) fn gaps_len<C: CodedIds>(set: ColorSet) -> usize
     ensures { result ≡ length (gap_bits 0 (coded_ids C.dense set.entry.colors.n set.entry.ids.now)) }
 {
     let mut bits: usize = 0;
     let mut c = Cursor { i: 0, from: 0 };
-    while let Some(NextId { id, next }) = C::next_id(set, c) {
-        bits += crate::codes::delta_len(id - c.from);
+    while let Some(NextBits { count, next }) = next_bits::<C>(set, c) {
+        bits += count;
         c = next;
     }
     bits

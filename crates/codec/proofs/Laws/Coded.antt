@@ -294,9 +294,9 @@ eight_bits dense N ids c next g =
     ap (gap_bits c.from) g.0 ∙ ones_bits 8 c.from (coded_from dense N ids next) ∙ ap (λ (n : ℕ). replicate 8 true ++ gap_bits n (coded_from dense N ids next)) (sym g.1)
 
 -- the bits of the next id, and of those behind it
-pub next_bits : (dense : Bool) (N : ℕ) (ids : List ℕ) (c : Cursor) (id : ℕ) (next : Cursor) → Gave dense N ids c (Some (record { id = id; next = next })) → bits_from dense N ids c ≡ delta (id - c.from) ++ bits_from dense N ids next
+pub id_bits : (dense : Bool) (N : ℕ) (ids : List ℕ) (c : Cursor) (id : ℕ) (next : Cursor) → Gave dense N ids c (Some (record { id = id; next = next })) → bits_from dense N ids c ≡ delta (id - c.from) ++ bits_from dense N ids next
 unfolding gap_bits
-next_bits dense N ids c id next gave = ap (gap_bits c.from) gave.0 ∙ ap (λ (n : ℕ). delta (id - c.from) ++ gap_bits n (coded_from dense N ids next)) (sym gave.3)
+id_bits dense N ids c id next gave = ap (gap_bits c.from) gave.0 ∙ ap (λ (n : ℕ). delta (id - c.from) ++ gap_bits n (coded_from dense N ids next)) (sym gave.3)
 
 pub no_bits : (dense : Bool) (N : ℕ) (ids : List ℕ) (c : Cursor) → Gave dense N ids c None → bits_from dense N ids c ≡ []
 unfolding gap_bits
@@ -305,12 +305,12 @@ no_bits dense N ids c e = ap (gap_bits c.from) e
 module _ (dense : Bool) (N : ℕ) (ids : List ℕ) (c : Cursor) (first : NextId) (gave : Gave dense N ids c (Some first)) where
   -- the bits of the last id
   pub last_bits : Gave dense N ids first.next None → bits_from dense N ids c ≡ delta (first.id - c.from)
-  last_bits e = next_bits dense N ids c first.id first.next gave ∙ ap (λ (l : List Bool). delta (first.id - c.from) ++ l) (no_bits dense N ids first.next e) ∙ append-nil (delta (first.id - c.from))
+  last_bits e = id_bits dense N ids c first.id first.next gave ∙ ap (λ (l : List Bool). delta (first.id - c.from) ++ l) (no_bits dense N ids first.next e) ∙ append-nil (delta (first.id - c.from))
 
   -- of two ids
   pub two_bits : (second : NextId) → Gave dense N ids first.next (Some second) → bits_from dense N ids c ≡ (delta (first.id - c.from) ++ delta (second.id - first.next.from)) ++ bits_from dense N ids second.next
   two_bits second more =
-      next_bits dense N ids c first.id first.next gave ∙ ap (λ (l : List Bool). delta (first.id - c.from) ++ l) (next_bits dense N ids first.next second.id second.next more)
+      id_bits dense N ids c first.id first.next gave ∙ ap (λ (l : List Bool). delta (first.id - c.from) ++ l) (id_bits dense N ids first.next second.id second.next more)
       ∙ sym (append_assoc (delta (first.id - c.from)) (delta (second.id - first.next.from)) (bits_from dense N ids second.next))
 
 -- ---- the bits of a set's coded ids: those of the ids given, and those of the ids yet to give
@@ -343,12 +343,12 @@ module _ (dense : Bool) (N : ℕ) (ids : List ℕ) where
     pub coding_room : length done + length (bits_from dense N ids c) ≤ length (gap_bits 0 (coded_ids dense N ids))
     coding_room = omega (arith, ap length so.all ∙ length-append done (bits_from dense N ids c))
 
-    pub coding_end : Gave dense N ids c None → gap_bits 0 (coded_ids dense N ids) ≡ done
-    coding_end e = so.all ∙ ap (λ (l : List Bool). done ++ l) (no_bits dense N ids c e) ∙ append-nil done
+    pub coding_end : bits_from dense N ids c ≡ [] → gap_bits 0 (coded_ids dense N ids) ≡ done
+    coding_end e = so.all ∙ ap (λ (l : List Bool). done ++ l) e ∙ append-nil done
 
     module _ (id : ℕ) (next : Cursor) (gave : Gave dense N ids c (Some (record { id = id; next = next }))) where
       pub coding_next : Coding dense N ids next (done ++ delta (id - c.from))
-      coding_next = coding_on next (delta (id - c.from)) (next_bits dense N ids c id next gave) gave.4
+      coding_next = coding_on next (delta (id - c.from)) (id_bits dense N ids c id next gave) gave.4
 
       -- where the bits of all ids stand behind one another, the next code is read
       pub coding_read : (bits left rest : List Bool) → bits ≡ done ++ left → bits ≡ gap_bits 0 (coded_ids dense N ids) ++ rest → (more : List Bool) × (read_delta left ≡ got (id - c.from) more)

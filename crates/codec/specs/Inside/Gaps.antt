@@ -6,6 +6,7 @@ use Rattle.codec.specs.Sets.{Within, map_bits, ids_of, absent, gap_bits, ReadIds
 use Rattle.codec.specs.Inside.Writers.{Wrote}
 use Rattle.codec.specs.declared.bits.BitWriter.{BitWriter}
 use Rattle.codec.specs.declared.gaps.Cursor.{Cursor}
+use Rattle.codec.specs.declared.gaps.NextBits.{NextBits}
 use Rattle.codec.specs.declared.gaps.NextId.{NextId}
 
 -- the ids that a set codes as distances: its own, or, of a dense set, those absent
@@ -59,6 +60,12 @@ GaveEight dense N ids c None = Unit {0}
 -- the bits of the ids that a cursor has yet to give
 abbrev pub bits_from : Bool → ℕ → List ℕ → Cursor → List Bool
 bits_from dense N ids c = gap_bits c.from (coded_from dense N ids c)
+
+-- how many bits the next ids take, at most 29 for each number passed, and the cursor behind them; or there are none
+abbrev pub CountedFrom : Bool → ℕ → List ℕ → Cursor → Option NextBits → Type 0
+CountedFrom dense N ids c (Some part) =
+    (bits : List Bool) × (length bits ≡ part.count) × (bits_from dense N ids c ≡ bits ++ bits_from dense N ids part.next) × (c.from < part.next.from) × (part.count + 29 * c.from ≤ 29 * part.next.from) × Ahead N ids part.next
+CountedFrom dense N ids c None = bits_from dense N ids c ≡ []
 
 -- the next ids written, and the cursor behind them; or all that were left
 abbrev pub WroteFrom : Bool → ℕ → List ℕ → BitWriter → BitWriter → Cursor → Option Cursor → Type 0

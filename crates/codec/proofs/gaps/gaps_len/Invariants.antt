@@ -7,8 +7,8 @@ use lib.ListN.{length}
 use Rattle.codec.proofs.Laws.Coded.{Coding}
 use Rattle.codec.proofs.gaps.gaps_len.Given as goal
 
-abbrev pub invariant-loop-id : goal.invariant-loop-id
-invariant-loop-id g l = (done : List Bool) × Coding g.C.CodedIds.dense l.set.colors.n l.set.ids.now l.c done × (length done ≡ l.bits) × (l.bits ≤ 29 * l.c.from)
+abbrev pub invariant-loop-count : goal.invariant-loop-count
+invariant-loop-count g l = (done : List Bool) × Coding g.C.CodedIds.dense l.set.colors.n l.set.ids.now l.c done × (length done ≡ l.bits) × (l.bits ≤ 29 * l.c.from)
 
-abbrev pub decreases-loop-id : goal.decreases-loop-id
-decreases-loop-id g l = l.set.colors.n - l.c.from
+abbrev pub decreases-loop-count : goal.decreases-loop-count
+decreases-loop-count g l = l.set.colors.n - l.c.from

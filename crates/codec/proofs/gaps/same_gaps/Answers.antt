@@ -7,7 +7,7 @@ use lib.ListN.{drop}
 use Rattle.codec.specs.Bits.{bits_of}
 use Rattle.codec.specs.Codes.{delta, got}
 use Rattle.codec.proofs.Laws.Codes.{delta_only}
-use Rattle.codec.proofs.Laws.Coded.{coding_start, coding_next, coding_end, coding_read}
+use Rattle.codec.proofs.Laws.Coded.{no_bits, coding_start, coding_next, coding_end, coding_read}
 use Rattle.codec.proofs.gaps.same_gaps.Goals as goal
 
 got_value : {v w : ℕ} {r s : List Bool} → got v r ≡ got w s → v ≡ w
@@ -21,7 +21,7 @@ loop-id-init g c =
 pub returns : goal.returns
 returns g c =
     let a = c.args in
-    (c.loop-id.invariant.2 ∙ ap (λ (x : List Bool). x ++ drop c.loop-id.place (bits_of a.source.bytes.now)) (sym (coding_end g.C.CodedIds.dense a.set.colors.n a.set.ids.now c.loop-id.c c.loop-id.invariant.0 c.loop-id.invariant.1 c.in_default.ensures)), c.loop-id.invariant.3)
+    (c.loop-id.invariant.2 ∙ ap (λ (x : List Bool). x ++ drop c.loop-id.place (bits_of a.source.bytes.now)) (sym (coding_end g.C.CodedIds.dense a.set.colors.n a.set.ids.now c.loop-id.c c.loop-id.invariant.0 c.loop-id.invariant.1 (no_bits g.C.CodedIds.dense a.set.colors.n a.set.ids.now c.loop-id.c c.in_default.ensures))), c.loop-id.invariant.3)
 
 pub returns-in_err-value : goal.returns-in_err-value
 returns-in_err-value g c = rw c.from_residual.ensures (λ rest e.
