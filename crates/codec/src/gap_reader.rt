@@ -44,8 +44,9 @@ fn put_numbers(room: &mut [u32], i: usize, from: u32, k: usize)
     requires { from + k < 2 ^ 32 }
     ensures { room.new ≡ over (take i room.old ++ take (length room.old - i) (numbers from k)) room.old }
 {
-    if i < room.len() {
-        let fits = k.min(room.len() - i);
+    let space = room.len().saturating_sub(i);
+    if 0 < space {
+        let fits = k.min(space);
         crate::gaps::fill_numbers(from, from + fits as u32, room, i);
     }
 }
