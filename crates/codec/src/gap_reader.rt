@@ -121,7 +121,7 @@ impl Body<'_> {
         })
     }
 
-    // Behind the codes that the number shows so, three at most.
+    // Behind the codes that the number shows so, three at most. Where ones follow the first, they are read as a run next.
     #[inline(always)]
     fn read_three(self, r: Reached, word: u64, room: &mut [u32]) -> Option<Reached>
         requires within { Within self r × (r.i + 3 ≤ self.count) }
@@ -134,6 +134,9 @@ impl Body<'_> {
             many: 57,
         };
         let s = self.read_seen(s, room)?;
+        if s.word % 16 == 15 {
+            return Some(s.reached);
+        }
         let s = self.read_seen(s, room)?;
         let s = self.read_seen(s, room)?;
         Some(s.reached)
