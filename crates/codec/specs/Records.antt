@@ -1,8 +1,10 @@
 -- Section 4 of 01: records, files of them, and what writing and reading one answers.
-use Rattle.std.specs.Prelude.{ℕ, ◌-◌, Bool, true, false, not, cond, ◌||◌, ◌&&◌, List, [], ◌∷◌, ◌++◌, length, take, drop, leb, ltb, eqb}
+use Rattle.std.specs.Prelude.{ℕ, ◌-◌, Bool, true, false, not, cond, ◌||◌, ◌&&◌, List, [], ◌∷◌, ◌++◌, length, take, drop, leb, ltb, eqb, Result, Ok, Err}
 use Rattle.base.specs.Tests.{◌when◌else◌}
 use Rattle.base.specs.Answers.{Answer, refused, done}
 use Rattle.base.specs.Parts.{over}
+use Rattle.base.specs.declared.Refusal.{Refusal}
+use Rattle.base.specs.declared.Refusal.TheVariants.{Colors, Ids}
 use Rattle.codec.specs.Prefix.{prefix_of, ReadLeb, whole, cut, bad, read_prefix}
 use Rattle.codec.specs.Flat.{flat}
 use Rattle.codec.specs.Sets.{within, encode_set, Decoded, set, no_set, decode_set}
@@ -49,6 +51,15 @@ write_record N ids out =
     -- 3, output too short
     (refused 3, out) when ltb (length out) (length (record_of N ids)) else
     (done (length (record_of N ids) ∷ []), over (record_of N ids) out)
+
+-- measure a set: the colour count and the ids, once they are known to be a set
+unfoldable pub measured : ℕ → List ℕ → Result (ℕ × List ℕ) Refusal
+measured N ids =
+    -- 1, N outside 1 to 1,048,576
+    Err Colors when bad_colors N else
+    -- 2, ids not strictly ascending or one not below N
+    Err Ids when not (within 0 N ids) else
+    Ok (N, ids)
 
 -- how long the record is: its bytes
 unfoldable pub record_length : ℕ → List ℕ → Answer

@@ -1,6 +1,6 @@
 // A colour count and ids below it, as every record has them.
 ghost use Rattle.std.specs.Prelude.{◌≡◌, ◌≤◌, ◌^◌, true, false, IfOk, IfErr};
-ghost use Rattle.base.specs.Answers.{number_of};
+ghost use Rattle.base.specs.declared.Refusal.TheVariants as refusal;
 ghost use Rattle.codec.specs.Records.{bad_colors};
 ghost use Rattle.codec.specs.Sets.{Within};
 ghost use Rattle.codec.specs.Inside.Colors.{Within-prop, Turned};
@@ -18,7 +18,7 @@ pub(crate) struct Colors {
 impl Colors {
     pub(crate) fn new(n: u32) -> Result<Self, Refusal>
         ensures taken { IfOk result (λ c. (bad_colors n ≡ false) × (c.n ≡ n)) }
-        ensures refused { IfErr result (λ r. (bad_colors n ≡ true) × (number_of r ≡ 1)) }
+        ensures refused { IfErr result (λ r. (bad_colors n ≡ true) × (r ≡ refusal.Colors)) }
     {
         if crate::records::bad_colors(n) {
             return Err(Refusal::Colors);
@@ -39,7 +39,7 @@ impl<'a> ColorSet<'a> {
     // The colour count is tested before the ids.
     pub(crate) fn new(n: u32, ids: &'a [u32]) -> Result<Self, Refusal>
         ensures taken { IfOk result (λ s. (s.colors.n ≡ n) × (s.ids ≡ ids.entry)) }
-        ensures refused { IfErr result (λ r. Turned n ids.now (number_of r)) }
+        ensures refused { IfErr result (λ r. Turned n ids.now r) }
     {
         let colors = Colors::new(n)?;
         if !crate::sets::is_ascending(ids, colors.n) {

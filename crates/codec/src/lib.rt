@@ -9,6 +9,7 @@ mod codes; // Elias gamma and delta codes
 mod gap_reader; // ids coded as distances, read
 mod gaps; // ids as the distances between them
 pub mod index; // where the records of a file begin
+pub mod measured; // a set with how long its payload is
 pub mod prefix; // LEB128 length prefixes
 mod reader; // a payload and a bit place, at the reader's outer edge
 pub mod records; // records: a length prefix and a payload

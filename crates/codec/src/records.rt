@@ -8,6 +8,7 @@ ghost use Rattle.codec.specs.Sets.{encode_set, decode_set};
 ghost use Rattle.codec.specs.Inside.Payloads.{put_set};
 
 use crate::colors::{ColorSet, Colors};
+use crate::measured::Measured;
 use crate::prefix::Prefix;
 use crate::source::Source;
 use base::{Given, Refusal};
@@ -24,16 +25,8 @@ pub fn bad_colors(n: u32) -> bool
 pub fn color_record_len(n: u32, ids: &[u32]) -> Result<usize, Refusal>
     ensures { of_written result ≡ record_length n ids.now }
 {
-    let set = ColorSet::new(n, ids)?;
-    let len = payload_len(set);
-    Ok(crate::prefix::varint_len(len) + len as usize)
-}
-
-// How many bytes the payload of a set has.
-fn payload_len(set: ColorSet) -> u32
-    ensures { result ≡ length (encode_set set.entry.colors.n set.entry.ids.now) }
-{
-    crate::sets::set_len(set).div_ceil(8) as u32
+    let set = Measured::new(n, ids)?;
+    Ok(set.record_len())
 }
 
 // Whether any record of sets of `n` colours fits in `room` bytes with a prefix of one byte.
@@ -65,15 +58,7 @@ pub fn write_color_record(n: u32, ids: &[u32], out: &mut [u8]) -> Result<usize, 
     if is_short(n, out.len()) {
         return Ok(write_short(set, out));
     }
-    let len = payload_len(set);
-    let at = crate::prefix::varint_len(len);
-    let total = at + len as usize;
-    if out.len() < total {
-        return Err(Refusal::Space);
-    }
-    crate::prefix::fill_varint(len, out);
-    crate::sets::encode_source_set(&mut out[at..total], set);
-    Ok(total)
+    Measured::of(set).write_record(out)
 }
 
 // The set at the front of `input` to the front of `ids`. A prefix that isn't whole passes its refusal straight up.

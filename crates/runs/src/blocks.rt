@@ -20,6 +20,7 @@ impl<'a> Blocks<'a> {
     ghost use Rattle.base.specs.Parts.{over};
     ghost use Rattle.runs.specs.Colours.{colour_at};
     ghost use Rattle.runs.specs.Inside.Blocks.{runs_of, IsRead};
+    ghost use Rattle.runs.specs.Inside.Lists.{IsSharpBeyond};
 
     // The list at the front of the bytes. Refusals: 4 or 5 of its count, then 4 where the runs end too early.
     pub(crate) fn read(bytes: &'a [u8]) -> Result<Blocks<'a>, Refusal>
@@ -49,20 +50,24 @@ impl<'a> Blocks<'a> {
         }
     }
 
-    // The coordinate of a vertex by them. They are gone through one by one: `partition_point` is a method of slices, and these are bytes.
+    // The coordinate of a vertex by them: they are sharp for more vertices, so that the last run that begins at or before it is found in
+    // halves. Run `low` is known to begin so; run `high`, if there is one, is not. `partition_point` is a method of slices, and these are bytes.
     #[tactic(auto, using(crate::proofs::Laws::Bytes::length_words))]
     pub(crate) fn color_at(&self, vertex: u32) -> u64
+        requires { IsSharpBeyond vertex (runs_of self.now) }
         ensures { result ≡ colour_at vertex (runs_of self.now) }
     {
-        let mut c: u64 = 0;
-        for i in 0..self.count {
-            let w = self.run_at(i);
-            if vertex < words::offset(w) {
-                return c;
+        let mut low = 0;
+        let mut high = self.count;
+        while low + 1 < high {
+            let middle = (low + high) / 2;
+            if words::offset(self.run_at(middle)) <= vertex {
+                low = middle;
+            } else {
+                high = middle;
             }
-            c = words::coordinate(w);
         }
-        c
+        words::coordinate(self.run_at(low))
     }
 }
 
@@ -78,7 +83,19 @@ impl Runs for Blocks<'_> {
 
     #[tactic(auto, using(crate::proofs::Laws::Bytes::length_words))]
     fn run_at(&self, i: usize) -> u64 {
-        let block = self.bytes[self.at + 8 * i..].first_chunk();
-        u64::from_le_bytes(*block.unwrap())
+        let b = self.bytes;
+        let p = self.at + 8 * i;
+        // Each byte by its place, which is one read of eight in the machine code. `first_chunk` would leave a test there, since its
+        // `unwrap` has one, which slows a list of few runs.
+        u64::from_le_bytes([
+            b[p],
+            b[p + 1],
+            b[p + 2],
+            b[p + 3],
+            b[p + 4],
+            b[p + 5],
+            b[p + 6],
+            b[p + 7],
+        ])
     }
 }

@@ -4,7 +4,7 @@ ghost use Rattle.runs.specs.Colours.{end_at, last_coord};
 ghost use Rattle.runs.specs.Orders.{steady, sharp};
 ghost use Rattle.runs.specs.Inside.Lists.{Taken};
 ghost use Rattle.runs.specs.Inside.Refusals.{IsTurnedDown};
-ghost use Rattle.runs.specs.Inside.Falls.{Countable, Testable, mark, total, of_eight, framed, spaced};
+ghost use Rattle.runs.specs.Inside.Falls.{Testable, gap, mark, total, of_eight, framed, spaced, never_falls};
 ghost use Rattle.runs.specs.Merge.{merged_count};
 
 use crate::listed::Runs;
@@ -12,7 +12,7 @@ use crate::words;
 use base::Refusal;
 
 // A list, and how many vertices each run is to begin behind the one before it, at least: none in a steady list, one in a sharp one. Where it
-// begins fewer behind, the list falls. Of each place is counted FALL where the list falls, and ALIKE where two neighbours have one coordinate.
+// begins fewer behind, the list falls. Of each place is counted 2^24 where the list falls, and ALIKE where two neighbours have one coordinate.
 #[derive(Drop)]
 struct Places<R: Runs> {
     runs: R,
@@ -21,70 +21,93 @@ struct Places<R: Runs> {
 }
 
 impl<R: Runs> Places<R> {
-    // What is counted at place p, between runs p and p + 1. A number, so that several are counted at a time.
-    fn mark_at<const FALL: u64, const ALIKE: u64>(&self, p: usize) -> u64
-        requires { (p + 1 < length (R.list self.now.runs)) × Countable FALL ALIKE (R.list self.now.runs) }
-        ensures { (result ≡ mark self.now.step FALL ALIKE (R.list self.now.runs) p) × (result ≤ FALL + ALIKE) }
+    // How far run p + 1 begins behind run p, less `step`, modulo 2^24; and what is counted where they are alike. These add up, along a list,
+    // to the last offset less the first and to what is counted, so that no fall is looked for at a place. A number, so that several are
+    // added at a time.
+    fn gap_at<const ALIKE: u64>(&self, p: usize) -> u64
+        requires { (p + 1 < length (R.list self.now.runs)) × (ALIKE ≤ 1) }
+        ensures { (result ≡ gap self.now.step ALIKE (R.list self.now.runs) p) × (result ≤ 16777216) }
     {
         let run = self.runs.run_at(p);
         let next = self.runs.run_at(p + 1);
-        let fall = (run % 16777216 + (16777215 + self.step) - next % 16777216) / 16777216;
+        let behind = (next % 16777216 + (16777216 - self.step) - run % 16777216) % 16777216;
         let alike = run / 16777216 == next / 16777216;
-        FALL * fall + ALIKE * u64::from(alike)
+        behind + ALIKE * u64::from(alike)
     }
 
     // At eight places, each `apart` behind the one before. Eight are written out, so that they are read side by side.
-    fn marks_of_eight<const FALL: u64, const ALIKE: u64>(&self, p: usize, apart: usize) -> u64
-        requires { (0 < apart) × (7 * apart + p + 1 < length (R.list self.now.runs)) × Countable FALL ALIKE (R.list self.now.runs) }
-        ensures { result ≡ of_eight (mark self.now.step FALL ALIKE (R.list self.now.runs)) apart p }
+    fn gaps_of_eight<const ALIKE: u64>(&self, p: usize, apart: usize) -> u64
+        requires { (0 < apart) × (7 * apart + p + 1 < length (R.list self.now.runs)) × (ALIKE ≤ 1) }
+        ensures { result ≡ of_eight (gap self.now.step ALIKE (R.list self.now.runs)) apart p }
     {
-        self.mark_at::<FALL, ALIKE>(p)
-            + self.mark_at::<FALL, ALIKE>(apart + p)
-            + self.mark_at::<FALL, ALIKE>(2 * apart + p)
-            + self.mark_at::<FALL, ALIKE>(3 * apart + p)
-            + self.mark_at::<FALL, ALIKE>(4 * apart + p)
-            + self.mark_at::<FALL, ALIKE>(5 * apart + p)
-            + self.mark_at::<FALL, ALIKE>(6 * apart + p)
-            + self.mark_at::<FALL, ALIKE>(7 * apart + p)
+        self.gap_at::<ALIKE>(p)
+            + self.gap_at::<ALIKE>(apart + p)
+            + self.gap_at::<ALIKE>(2 * apart + p)
+            + self.gap_at::<ALIKE>(3 * apart + p)
+            + self.gap_at::<ALIKE>(4 * apart + p)
+            + self.gap_at::<ALIKE>(5 * apart + p)
+            + self.gap_at::<ALIKE>(6 * apart + p)
+            + self.gap_at::<ALIKE>(7 * apart + p)
     }
 
-    // At the first 8 * `eighth` places. Eight parts are read side by side: so a list in far memory is read sooner.
-    fn marks_in_eighths<const FALL: u64, const ALIKE: u64>(&self, eighth: usize) -> u64
-        requires { (8 * eighth < length (R.list self.now.runs)) × Countable FALL ALIKE (R.list self.now.runs) }
-        ensures { result ≡ total (mark self.now.step FALL ALIKE (R.list self.now.runs)) 0 (8 * eighth) }
+    // At 8 * `eighth` places from `from` on. Eight parts are read side by side: so a list in far memory is read sooner.
+    fn gaps_in_eighths<const ALIKE: u64>(&self, from: usize, eighth: usize) -> u64
+        requires { (from + 8 * eighth < length (R.list self.now.runs)) × (8 * eighth ≤ 16777216) × (ALIKE ≤ 1) }
+        ensures { result ≡ total (gap self.now.step ALIKE (R.list self.now.runs)) from (8 * eighth) }
     {
-        (0..eighth)
-            .map(
-                |i|
-                    requires { (i < eighth) × Countable FALL ALIKE (R.list self.now.runs) × (8 * eighth < length (R.list self.now.runs)) }
-                    ensures { result ≡ of_eight (mark self.entry.now.step FALL ALIKE (R.list self.entry.now.runs)) eighth i }
-                { self.marks_of_eight::<FALL, ALIKE>(i, eighth) },
-            )
-            .sum()
-    }
-
-    // At the places from `from` on.
-    fn marks_from<const FALL: u64, const ALIKE: u64>(&self, from: usize) -> u64
-        requires { (from < length (R.list self.now.runs)) × Countable FALL ALIKE (R.list self.now.runs) }
-        ensures { result ≡ total (mark self.now.step FALL ALIKE (R.list self.now.runs)) from (length (R.list self.now.runs) - 1 - from) }
-    {
-        (from..self.runs.count() - 1)
+        (from..from + eighth)
             .map(
                 |p|
-                    requires { (p + 1 < length (R.list self.now.runs)) × Countable FALL ALIKE (R.list self.now.runs) }
-                    ensures { result ≡ mark self.entry.now.step FALL ALIKE (R.list self.entry.now.runs) p }
-                { self.mark_at::<FALL, ALIKE>(p) },
+                    requires { (0 < eighth) × (7 * eighth + p + 1 < length (R.list self.now.runs)) × (ALIKE ≤ 1) }
+                    ensures { result ≡ of_eight (gap self.entry.now.step ALIKE (R.list self.entry.now.runs)) eighth p }
+                { self.gaps_of_eight::<ALIKE>(p, eighth) },
             )
             .sum()
     }
 
-    // At all places.
-    fn marks<const FALL: u64, const ALIKE: u64>(&self) -> u64
-        requires { (0 < length (R.list self.now.runs)) × Countable FALL ALIKE (R.list self.now.runs) }
-        ensures { result ≡ total (mark self.now.step FALL ALIKE (R.list self.now.runs)) 0 (length (R.list self.now.runs) - 1) }
+    // At the places from `from` to `until`.
+    fn gaps_between<const ALIKE: u64>(&self, from: usize, until: usize) -> u64
+        requires { (from ≤ until) × (until < length (R.list self.now.runs)) × (until - from ≤ 16777216) × (ALIKE ≤ 1) }
+        ensures { result ≡ total (gap self.now.step ALIKE (R.list self.now.runs)) from (until - from) }
     {
-        let eighth = (self.runs.count() - 1) / 8;
-        self.marks_in_eighths::<FALL, ALIKE>(eighth) + self.marks_from::<FALL, ALIKE>(8 * eighth)
+        (from..until)
+            .map(
+                |p|
+                    requires { (p + 1 < length (R.list self.now.runs)) × (ALIKE ≤ 1) }
+                    ensures { result ≡ gap self.entry.now.step ALIKE (R.list self.entry.now.runs) p }
+                { self.gap_at::<ALIKE>(p) },
+            )
+            .sum()
+    }
+
+    // What is counted at `places` places from `from` on: no more than are added up in one number.
+    fn marks<const ALIKE: u64>(&self, from: usize, places: usize) -> u64
+        requires { (from + places < length (R.list self.now.runs)) × (places ≤ 16777216) × (ALIKE ≤ 1) }
+        ensures { result ≡ total (mark self.now.step ALIKE (R.list self.now.runs)) from places }
+    {
+        let eighth = places / 8;
+        let until = from + places;
+        let gaps = self.gaps_in_eighths::<ALIKE>(from, eighth)
+            + self.gaps_between::<ALIKE>(from + 8 * eighth, until);
+        let first = self.runs.run_at(from) % 16777216;
+        let last = self.runs.run_at(until) % 16777216;
+        first + self.step * places as u64 + gaps - last
+    }
+
+    // Whether the list falls nowhere.
+    fn never_falls(&self) -> bool
+        requires { 0 < length (R.list self.now.runs) }
+        ensures { result ≡ never_falls self.now.step (R.list self.now.runs) }
+    {
+        let places = self.runs.count() - 1;
+        let mut from = 0;
+        while 16777216 < places - from {
+            if self.marks::<0>(from, 16777216) != 0 {
+                return false;
+            }
+            from += 16777216;
+        }
+        self.marks::<0>(from, places - from) == 0
     }
 
     // Whether the first run begins at vertex 0, and the last at least `step` vertices before n.
@@ -104,7 +127,7 @@ fn is_spaced<R: Runs>(runs: R, step: u64, n: u32) -> bool
     ensures { result ≡ spaced step n (R.list runs) }
 {
     let places = Places { runs, step };
-    places.is_framed(n) && places.marks::<1, 0>() == 0
+    places.is_framed(n) && places.never_falls()
 }
 
 // Whether a list is sharp for n vertices.
@@ -142,7 +165,7 @@ pub fn merged_count(runs: &[u64], n: u32) -> Option<usize>
     if !places.is_framed(n) {
         return None;
     }
-    let marks = places.marks::<16777216, 1>();
+    let marks = places.marks::<1>(0, runs.len() - 1);
     if 16777216 <= marks {
         return None;
     }

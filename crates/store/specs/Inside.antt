@@ -2,6 +2,7 @@
 pub mod Places
 pub mod Lent
 pub mod Fits
+pub mod Adding
 pub mod Gates
 pub mod Joining
 pub mod Closing

@@ -1,55 +1,56 @@
 // Add: one set more in a cell's record file.
 // `as` stands where no `From` leads, from u32 to usize and from there to u64: what it converts is proved to fit.
-ghost use Rattle.std.specs.Prelude.{◌≡◌, length};
+ghost use Rattle.std.specs.Prelude.{◌≡◌, ◌≤◌, false, length, Ok};
+ghost use Rattle.codec.specs.Records.{bad_colors};
 ghost use Rattle.store.specs.State.{bufs, of_answer};
 ghost use Rattle.store.specs.Add.{no_space, same_add, add_test, add_filed, add_cell, add_step};
+ghost use Rattle.store.specs.Inside.Adding.{set_found, add_next};
 ghost use Rattle.store.specs.Inside.Fits.{AddFits, AddReady};
 
 use crate::filed::Filed;
 use crate::lengths::Lengths;
 use crate::state::{Cell, Extent, Last, Store, Told};
 use base::Refusal;
+use codec::measured::Measured;
 
-impl Filed<'_> {
+impl Cell {
     // Whether a record of so many bytes, or its index entry, doesn't fit.
     #[tactic(auto, using(base::proofs::Tests::tests), unfolding(crate::specs::Add::no_space))]
     fn no_space(self, len: usize) -> bool
-        ensures { result ≡ no_space self.entry.cell len }
+        requires { self.records.used ≤ self.records.length }
+        ensures { result ≡ no_space self len }
     {
-        let sets = self.cell.sets as usize;
-        self.cell.records.length - self.cell.records.used < len || self.cell.index < sets + 2
+        self.records.length - self.records.used < len || self.index < self.sets as usize + 2
     }
 
-    // Refusal 2, ids that are no set; 3, no space.
-    #[tactic(auto, using(base::proofs::Tests::tests), unfolding(crate::specs::Add::add_test, codec::specs::Records::record_length))]
-    fn add_test(self, ids: &[u32]) -> Result<(), Refusal>
-        ensures { result ≡ add_test self.entry.colors self.entry.cell ids.now }
+    // Refusal 2, ids that are no set; 3, no space. The set is handed on as it was measured here.
+    #[tactic(auto, using(base::proofs::Tests::tests), unfolding(crate::specs::Add::add_test, codec::specs::Records::measured))]
+    fn add_test(self, colors: u32, ids: &[u32]) -> Result<Measured<'_>, Refusal>
+        requires { (bad_colors colors ≡ false) × (self.records.used ≤ self.records.length) }
+        ensures { result ≡ set_found colors ids.now (add_test colors self ids.now) }
     {
         // the colours are within their limits, so that it can only refuse the ids
-        let len = codec::records::color_record_len(self.colors, ids)?;
-        if self.no_space(len) {
+        let set = Measured::new(colors, ids)?;
+        if self.no_space(set.record_len()) {
             return Err(Refusal::Space);
         }
-        Ok(())
+        Ok(set)
     }
-}
 
-impl Cell {
     // The record behind the used bytes, its end in the index, and the new state.
     fn file_set(
         self,
-        colors: u32,
         number: u32,
-        ids: &[u32],
+        set: &Measured,
         records: &mut [u8],
         index: &mut [u64],
     ) -> Told<Cell, u64>
-        requires { AddReady colors self ids.now (length records.old) (length index.old) }
-        ensures { (of_answer result.answer, result.state, records.new, index.new) ≡ add_filed colors self number ids.now records.old index.old }
+        requires { AddReady set.now.0 self set.now.1 (length records.old) (length index.old) }
+        ensures { (of_answer result.answer, result.state, records.new, index.new) ≡ add_filed set.now.0 self number set.now.1 records.old index.old }
     {
         let at = self.records.used;
         let sets = self.sets as usize;
-        let len = codec::records::write_color_record(colors, ids, &mut records[at..]).unwrap();
+        let len = set.write_record(&mut records[at..]).unwrap();
         let end = at + len;
         index[sets + 1] = end as u64;
         let coord = runs::words::coordinate_of(self.worker, self.sets);
@@ -67,6 +68,27 @@ impl Cell {
         Told {
             state,
             answer: Ok(coord),
+        }
+    }
+
+    // An add with the next number. Refusals 2, 3, in this order.
+    fn add_next(
+        self,
+        colors: u32,
+        number: u32,
+        ids: &[u32],
+        records: &mut [u8],
+        index: &mut [u64],
+    ) -> Told<Cell, u64>
+        requires { AddFits colors self (length records.old) (length index.old) }
+        ensures { (of_answer result.answer, result.state, records.new, index.new) ≡ add_next colors self number ids.now records.old index.old }
+    {
+        match self.add_test(colors, ids) {
+            Err(refusal) => Told {
+                state: self,
+                answer: Err(refusal),
+            },
+            Ok(set) => self.file_set(number, &set, records, index),
         }
     }
 
@@ -88,10 +110,11 @@ impl Cell {
         let same = ||
             ensures { result ≡ same_add filed.entry.colors filed.entry.cell filed.entry.file.now filed.entry.index.now filed.entry.cell.last ids.entry.now }
         { filed.cell.last == Last::Add && filed.names_set(filed.cell.answer, ids) };
-        let test = ||
-            ensures { result ≡ add_test filed.entry.colors filed.entry.cell ids.entry.now }
-        { filed.add_test(ids) };
-        let gate = self.gate(number, same, test);
+        // the tests of the ids are not the gate's: they measure the set that is filed
+        let untested = ||
+            ensures { result ≡ Ok tt }
+        { Ok(()) };
+        let gate = self.gate(number, same, untested);
         // a match, as in close and join: by `map_or_else` nothing would be known of the buffers where the closure that they
         // are lent to isn't called
         match gate.transpose() {
@@ -99,7 +122,7 @@ impl Cell {
                 state: self,
                 answer,
             },
-            None => self.file_set(colors, number, ids, records, index),
+            None => self.add_next(colors, number, ids, records, index),
         }
     }
 }

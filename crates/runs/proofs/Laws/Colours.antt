@@ -4,18 +4,17 @@ use mathlib.Core.Path.{◌≡◌, refl, sym, ap, ◌∙◌}
 use mathlib.Core.Bool.{Bool, true, false}
 use mathlib.Core.List.{List, [], ◌∷◌, ◌++◌, append-nil, append_assoc}
 use native.Mathlib.Omega.{arith}
-use native.Mathlib.Numerals.{add-one}
-use borrow.Author.Tests.{le-leb, lt-leb, leb-true, leb-false}
+use native.Mathlib.Decide.{dec_lt}
+use borrow.Author.Tests.{le-leb, leb-true, leb-false}
 use lib.Dec.{leb}
 use lib.ListN.{length, drop, get_or, replicate, length-append, length-replicate, get_or-replicate, get_or-append, drop_of_length-le}
-use lib.Seq.{drop-cons}
 use Rattle.runs.specs.Words.{offset, coordinate}
 use Rattle.base.specs.Tests.{◌when◌else◌}
 use Rattle.base.proofs.Tests.{when_yes, when_no}
-use Rattle.runs.specs.Colours.{next, end_at, colours, colour_from}
-use Rattle.runs.specs.Inside.Lists.{Steady}
+use Rattle.runs.specs.Colours.{next, end_at, colours, colour_from, colour_at}
+use Rattle.runs.specs.Inside.Lists.{Steady, Between, IsSharpBeyond}
 use Rattle.runs.proofs.Laws.Lists.{get_or_behind}
-use Rattle.runs.proofs.Laws.Orders.{Up, tail_up, next_le, next_up, starts_zero}
+use Rattle.runs.proofs.Laws.Orders.{Up, tail_up, next_le, next_up, run_begins, sharp_steady, starts_zero}
 
 pub length_colours : (n : ℕ) (ws : List ℕ) → Up n ws → length (colours n ws) ≡ n - next n ws
 unfolding colours
@@ -61,22 +60,6 @@ colours_append n (w ∷ []) ys = simp append-nil
 colours_append n (w ∷ v ∷ xs) ys =
     ap (λ (l : List ℕ). replicate (offset v - offset w) (coordinate w) ++ l) (colours_append n (v ∷ xs) ys) ∙ sym (append_assoc (replicate (offset v - offset w) (coordinate w)) (colours (next n ys) (v ∷ xs)) (colours n ys))
 
--- ---- the coordinate of a vertex, run by run
-
-module _ (c vertex i : ℕ) (ws : List ℕ) where
-  pub colour_stop : i < length ws → vertex < offset (get_or ws i 0) → colour_from c vertex (drop i ws) ≡ c
-  unfolding colour_from
-  colour_stop l h = ap (colour_from c vertex) (drop-cons ws i 0 l) ∙ when_no _ _ _ (lt-leb (offset (get_or ws i 0)) vertex h)
-
-  pub colour_step : i < length ws → offset (get_or ws i 0) ≤ vertex → colour_from c vertex (drop i ws) ≡ colour_from (coordinate (get_or ws i 0)) vertex (drop (i + 1) ws)
-  unfolding colour_from
-  colour_step l h =
-      ap (colour_from c vertex) (drop-cons ws i 0 l) ∙ when_yes _ _ _ (le-leb (offset (get_or ws i 0)) vertex h) ∙ ap (λ (k : ℕ). colour_from (coordinate (get_or ws i 0)) vertex (drop k ws)) (sym (add-one i))
-
-  pub colour_end : length ws ≤ i → colour_from c vertex (drop i ws) ≡ c
-  unfolding colour_from
-  colour_end l = ap (colour_from c vertex) (drop_of_length-le ws {i = i} l)
-
 -- ---- the coordinate of a vertex is its colour
 
 in_block : (m c v : ℕ) (rest : List ℕ) → v < m → get_or (replicate m c ++ rest) v 0 ≡ c
@@ -110,3 +93,21 @@ colour_steady n (w ∷ ws) v s h l =
     let a : offset w ≤ v = omega (arith, s.first) in
     let i : v - offset w ≡ v = omega (arith, s.first) in
     when_yes _ _ _ (le-leb (offset w) v a) ∙ colour_in n w ws v s.up a l ∙ ap (λ (x : ℕ). get_or (colours n (w ∷ ws)) x 0) i
+
+-- of the runs of a list that is sharp for more vertices, the one that begins at or before the vertex and is the last to
+pub colour_between : (v : ℕ) (ws : List ℕ) (low high : ℕ) → IsSharpBeyond v ws → Between v ws low high → high ≤ low + 1 → coordinate (get_or ws low 0) ≡ colour_at v ws
+colour_between v ws low high s b one =
+    let n = s.vertices in
+    let t = sharp_steady n ws s.list in
+    let l : low < length ws = omega (arith, b.apart, b.inside) in
+    let f : next n (drop low ws) ≤ v = omega (arith, b.begun, run_begins n ws low l) in
+    sym (colour_steady n ws v t s.list.some s.inside ∙ steady_at n ws t s.list.some low v l f (ends (dec_lt high (length ws))))
+  where
+    ends : Dec (high < length ws) → v < end_at s.vertices ws low
+    ends (yes h) =
+        let q : high ≡ suc low = omega (arith, b.apart) in
+        let e : end_at s.vertices ws low ≡ offset (get_or ws high 0) = ap (λ (k : ℕ). next s.vertices (drop k ws)) (sym q) ∙ run_begins s.vertices ws high h in
+        omega (arith, b.behind h)
+    ends (no h) =
+        let e : end_at s.vertices ws low ≡ s.vertices = ap (next s.vertices) (drop_of_length-le ws {i = suc low} (omega (arith, b.apart))) in
+        omega (arith, s.inside)

@@ -1,35 +1,35 @@
 -- What is counted at the places of a list: where it falls, which the tests for steady and sharp lists count, and where neighbours are alike.
-use Prim.Native.Nat.{ℕ, zero, suc, ◌+◌, ◌-◌, ◌*◌, ◌/◌, ◌^◌, ◌≤◌, ◌<◌}
+use Prim.Native.Nat.{ℕ, zero, suc, ◌+◌, ◌-◌, ◌*◌, ◌%◌, ◌≤◌, ◌<◌}
 use mathlib.Core.Path.{◌≡◌, refl, sym, ap, ap₂, ◌∙◌, subst}
 use mathlib.Core.Bool.{Bool, true, false}
 use mathlib.Core.List.{List, map}
 use native.Mathlib.Omega.{arith}
 use native.Mathlib.Decide.{dec_lt}
-use native.Mathlib.Nat.{add-zero, add-suc, mul-add, mul-le-mul_left, mul-le-mul_right, mul-one, mul-zero, suc-mul, zero-mul}
+use native.Mathlib.Nat.{add-zero, add-suc, mul-add, mul-le-mul_left, mul-one, mul-suc, mul-zero, suc-mul, zero-mul}
 use native.Mathlib.Numerals.{add-one}
 use borrow.Author.Tests.{leb-true, eqb-true, eq-eqb, ne_eqb, le-leb, lt-ltb, le-ltb}
 use Rattle.std.specs.Int.{from_bool}
 use Rattle.std.specs.List.{range_with_len, sum}
 use Rattle.std.proofs.lemmas.List.FromFn.{sum_by-map-range_with_len_more}
 use lib.ListN.{length, get_or, drop_of_length-le}
-use lib.Dec.{leb, ltb, eqb}
+use lib.Dec.{leb, eqb}
 use Rattle.base.specs.Tests.{◌when◌else◌}
 use Rattle.base.proofs.Tests.{when_yes, when_no}
 use Rattle.base.proofs.Bools.{and_true, and_both}
 use Rattle.runs.specs.Words.{offset, coordinate}
 use Rattle.runs.specs.Colours.{next, end_at}
 use Rattle.runs.specs.Orders.{steady, sharp}
-use Rattle.runs.specs.Inside.Falls.{alike, fall, framed, mark, of_eight, spaced, total}
+use Rattle.runs.specs.Inside.Falls.{alike, fall, framed, gap, mark, never_falls, of_eight, spaced, total}
 use Rattle.runs.proofs.Laws.Orders.{UpBy, run_begins, steady_yes, yes_steady, sharp_yes, yes_sharp}
 
 -- ---- one place
 
--- how it is computed of the offsets a and b
-quotient_yes : (a b step : ℕ) → a < 16777216 → b < 16777216 → step ≤ 1 → b < a + step → (a + (16777215 + step) - b) / 16777216 ≡ 1
-quotient_yes a b step h g s l = omega arith
+-- from offset a to offset b
+behind_yes : (a b step : ℕ) → a < 16777216 → b < 16777216 → step ≤ 1 → b < a + step → a + step + (b + (16777216 - step) - a) % 16777216 ≡ b + 16777216
+behind_yes a b step h g s l = omega arith
 
-quotient_no : (a b step : ℕ) → a < 16777216 → b < 16777216 → step ≤ 1 → a + step ≤ b → (a + (16777215 + step) - b) / 16777216 ≡ 0
-quotient_no a b step h g s l = omega arith
+behind_no : (a b step : ℕ) → a < 16777216 → b < 16777216 → step ≤ 1 → a + step ≤ b → a + step + (b + (16777216 - step) - a) % 16777216 ≡ b
+behind_no a b step h g s l = omega arith
 
 module _ (step : ℕ) (ws : List ℕ) where
   module _ (p : ℕ) where
@@ -41,20 +41,18 @@ module _ (step : ℕ) (ws : List ℕ) where
     unfolding fall
     fall_no h = when_no _ _ _ (le-ltb _ _ h)
 
-    pub fall_le : fall step ws p ≤ 1
-    unfolding fall ◌when◌else◌
-    fall_le = go (ltb (offset (get_or ws (p + 1) 0)) (offset (get_or ws p 0) + step))
+    -- a gap leads from one offset to the next, with what is counted there
+    behind_is : step ≤ 1 → offset (get_or ws p 0) + step + (offset (get_or ws (p + 1) 0) + (16777216 - step) - offset (get_or ws p 0)) % 16777216 ≡ offset (get_or ws (p + 1) 0) + 16777216 * fall step ws p
+    behind_is s = go (dec_lt (offset (get_or ws (p + 1) 0)) (offset (get_or ws p 0) + step))
       where
-        go : (t : Bool) → (◌when◌else◌ {A = ℕ} 1 t 0) ≤ 1
-        go true = omega arith
-        go false = omega arith
+        go : Dec (offset (get_or ws (p + 1) 0) < offset (get_or ws p 0) + step)
+            → offset (get_or ws p 0) + step + (offset (get_or ws (p + 1) 0) + (16777216 - step) - offset (get_or ws p 0)) % 16777216 ≡ offset (get_or ws (p + 1) 0) + 16777216 * fall step ws p
+        go (yes h) = omega (arith, behind_yes (offset (get_or ws p 0)) (offset (get_or ws (p + 1) 0)) step (omega arith) (omega arith) s h, fall_yes h)
+        go (no h) = omega (arith, behind_no (offset (get_or ws p 0)) (offset (get_or ws (p + 1) 0)) step (omega arith) (omega arith) s (omega arith), fall_no (omega arith))
 
-    pub fall_is : step ≤ 1 → (offset (get_or ws p 0) + (16777215 + step) - offset (get_or ws (p + 1) 0)) / 16777216 ≡ fall step ws p
-    fall_is s = go (dec_lt (offset (get_or ws (p + 1) 0)) (offset (get_or ws p 0) + step))
-      where
-        go : Dec (offset (get_or ws (p + 1) 0) < offset (get_or ws p 0) + step) → (offset (get_or ws p 0) + (16777215 + step) - offset (get_or ws (p + 1) 0)) / 16777216 ≡ fall step ws p
-        go (yes h) = quotient_yes (offset (get_or ws p 0)) (offset (get_or ws (p + 1) 0)) step (omega arith) (omega arith) s h ∙ sym (fall_yes h)
-        go (no h) = quotient_no (offset (get_or ws p 0)) (offset (get_or ws (p + 1) 0)) step (omega arith) (omega arith) s (omega arith) ∙ sym (fall_no (omega arith))
+    gap_leads : (a : ℕ) → step ≤ 1 → offset (get_or ws p 0) + step + gap step a ws p ≡ offset (get_or ws (p + 1) 0) + mark step a ws p
+    unfolding gap
+    gap_leads a s = omega (arith, behind_is s)
 
     fall_none : fall step ws p ≡ 0 → offset (get_or ws p 0) + step ≤ offset (get_or ws (p + 1) 0)
     fall_none e = go (dec_lt (offset (get_or ws (p + 1) 0)) (offset (get_or ws p 0) + step))
@@ -81,8 +79,14 @@ alike_le ws p = go (eqb (coordinate (get_or ws p 0)) (coordinate (get_or ws (p +
     go true = omega arith
     go false = omega arith
 
-pub mark_le : (step f a : ℕ) (ws : List ℕ) (p : ℕ) → mark step f a ws p ≤ f + a
-mark_le step f a ws p = omega (arith, mul-le-mul_left f (fall_le step ws p), mul-one f, mul-le-mul_left a (alike_le ws p), mul-one a)
+-- how a gap is computed: what is summed is at most 2^24
+pub gap_is : (step a : ℕ) (ws : List ℕ) (p behind alike' : ℕ) → behind ≡ (offset (get_or ws (p + 1) 0) + (16777216 - step) - offset (get_or ws p 0)) % 16777216 → alike' ≡ alike ws p → behind + a * alike' ≡ gap step a ws p
+unfolding gap
+gap_is step a ws p behind alike' e f = ap₂ (λ (x y : ℕ). x + a * y) e f
+
+pub gap_le : (step a : ℕ) (ws : List ℕ) (p : ℕ) → a ≤ 1 → gap step a ws p ≤ 16777216
+unfolding gap
+gap_le step a ws p h = omega (arith, mul-le-mul_left a (alike_le ws p), mul-one a)
 
 -- ---- what is counted at many places
 
@@ -120,45 +124,45 @@ module _ (f : ℕ → ℕ) where
       ∙ sum_by-map-range_with_len_more (λ (x : ℕ). x) f p k (p + k) refl
       ∙ ap (λ (x : ℕ). x + f (p + k)) (total_sum p k)
 
-  -- of i places in each of eight parts of q places
-  abbrev in_eighths : ℕ → ℕ → ℕ
-  in_eighths q i = total f 0 i + total f q i + (total f (2 * q) i + total f (3 * q) i) + (total f (4 * q) i + total f (5 * q) i + (total f (6 * q) i + total f (7 * q) i))
+  -- of i places in each of eight parts of q places, from p on
+  abbrev in_eighths : ℕ → ℕ → ℕ → ℕ
+  in_eighths q p i = total f p i + total f (q + p) i + (total f (2 * q + p) i + total f (3 * q + p) i) + (total f (4 * q + p) i + total f (5 * q + p) i + (total f (6 * q + p) i + total f (7 * q + p) i))
 
-  eighths_more : (q i : ℕ) → in_eighths q i + of_eight f q i ≡ in_eighths q (i + 1)
-  eighths_more q i =
-      let a0 : total f 0 (i + 1) ≡ total f 0 i + f i = total_more 0 i i (omega arith) in
-      let a1 : total f q (i + 1) ≡ total f q i + f (q + i) = total_more q i (q + i) refl in
-      let a2 : total f (2 * q) (i + 1) ≡ total f (2 * q) i + f (2 * q + i) = total_more (2 * q) i (2 * q + i) refl in
-      let a3 : total f (3 * q) (i + 1) ≡ total f (3 * q) i + f (3 * q + i) = total_more (3 * q) i (3 * q + i) refl in
-      let a4 : total f (4 * q) (i + 1) ≡ total f (4 * q) i + f (4 * q + i) = total_more (4 * q) i (4 * q + i) refl in
-      let a5 : total f (5 * q) (i + 1) ≡ total f (5 * q) i + f (5 * q + i) = total_more (5 * q) i (5 * q + i) refl in
-      let a6 : total f (6 * q) (i + 1) ≡ total f (6 * q) i + f (6 * q + i) = total_more (6 * q) i (6 * q + i) refl in
-      let a7 : total f (7 * q) (i + 1) ≡ total f (7 * q) i + f (7 * q + i) = total_more (7 * q) i (7 * q + i) refl in
+  eighths_more : (q p i : ℕ) → in_eighths q p i + of_eight f q (p + i) ≡ in_eighths q p (i + 1)
+  eighths_more q p i =
+      let a0 : total f p (i + 1) ≡ total f p i + f (p + i) = total_more p i (p + i) refl in
+      let a1 : total f (q + p) (i + 1) ≡ total f (q + p) i + f (q + (p + i)) = total_more (q + p) i (q + (p + i)) (omega arith) in
+      let a2 : total f (2 * q + p) (i + 1) ≡ total f (2 * q + p) i + f (2 * q + (p + i)) = total_more (2 * q + p) i (2 * q + (p + i)) (omega arith) in
+      let a3 : total f (3 * q + p) (i + 1) ≡ total f (3 * q + p) i + f (3 * q + (p + i)) = total_more (3 * q + p) i (3 * q + (p + i)) (omega arith) in
+      let a4 : total f (4 * q + p) (i + 1) ≡ total f (4 * q + p) i + f (4 * q + (p + i)) = total_more (4 * q + p) i (4 * q + (p + i)) (omega arith) in
+      let a5 : total f (5 * q + p) (i + 1) ≡ total f (5 * q + p) i + f (5 * q + (p + i)) = total_more (5 * q + p) i (5 * q + (p + i)) (omega arith) in
+      let a6 : total f (6 * q + p) (i + 1) ≡ total f (6 * q + p) i + f (6 * q + (p + i)) = total_more (6 * q + p) i (6 * q + (p + i)) (omega arith) in
+      let a7 : total f (7 * q + p) (i + 1) ≡ total f (7 * q + p) i + f (7 * q + (p + i)) = total_more (7 * q + p) i (7 * q + (p + i)) (omega arith) in
       omega arith
 
-  in_eighths_sum : (q k : ℕ) → sum (map (of_eight f q) (range_with_len 0 k)) ≡ in_eighths q k
+  in_eighths_sum : (q p k : ℕ) → sum (map (of_eight f q) (range_with_len p k)) ≡ in_eighths q p k
   unfolding total
-  in_eighths_sum q zero = refl
-  in_eighths_sum q (suc k) =
-      ap (λ (n : ℕ). sum (map (of_eight f q) (range_with_len 0 n))) (sym (add-one k))
-      ∙ sum_by-map-range_with_len_more (λ (x : ℕ). x) (of_eight f q) 0 k k (omega arith)
-      ∙ ap (λ (x : ℕ). x + of_eight f q k) (in_eighths_sum q k)
-      ∙ eighths_more q k
-      ∙ ap (in_eighths q) (add-one k)
+  in_eighths_sum q p zero = refl
+  in_eighths_sum q p (suc k) =
+      ap (λ (n : ℕ). sum (map (of_eight f q) (range_with_len p n))) (sym (add-one k))
+      ∙ sum_by-map-range_with_len_more (λ (x : ℕ). x) (of_eight f q) p k (p + k) refl
+      ∙ ap (λ (x : ℕ). x + of_eight f q (p + k)) (in_eighths_sum q p k)
+      ∙ eighths_more q p k
+      ∙ ap (in_eighths q p) (add-one k)
 
   -- all of them
-  pub eighths_sum : (q : ℕ) → sum (map (of_eight f q) (range_with_len 0 q)) ≡ total f 0 (8 * q)
-  eighths_sum q =
-      let a : total f 0 q + total f q q ≡ total f 0 (q + q) = total_join 0 q q q (omega arith) in
-      let b : total f (2 * q) q + total f (3 * q) q ≡ total f (2 * q) (q + q) = total_join (2 * q) q q (3 * q) (omega arith) in
-      let c : total f (4 * q) q + total f (5 * q) q ≡ total f (4 * q) (q + q) = total_join (4 * q) q q (5 * q) (omega arith) in
-      let d : total f (6 * q) q + total f (7 * q) q ≡ total f (6 * q) (q + q) = total_join (6 * q) q q (7 * q) (omega arith) in
-      let e : total f 0 (q + q) + total f (2 * q) (q + q) ≡ total f 0 (q + q + (q + q)) = total_join 0 (q + q) (q + q) (2 * q) (omega arith) in
-      let g : total f (4 * q) (q + q) + total f (6 * q) (q + q) ≡ total f (4 * q) (q + q + (q + q)) = total_join (4 * q) (q + q) (q + q) (6 * q) (omega arith) in
-      let h : total f 0 (q + q + (q + q)) + total f (4 * q) (q + q + (q + q)) ≡ total f 0 (q + q + (q + q) + (q + q + (q + q))) = total_join 0 (q + q + (q + q)) (q + q + (q + q)) (4 * q) (omega arith) in
-      let j : total f 0 (q + q + (q + q) + (q + q + (q + q))) ≡ total f 0 (8 * q) = ap (total f 0) (omega arith) in
-      let i : in_eighths q q ≡ total f 0 (8 * q) = omega arith in
-      in_eighths_sum q q ∙ i
+  pub eighths_sum : (q p : ℕ) → sum (map (of_eight f q) (range_with_len p q)) ≡ total f p (8 * q)
+  eighths_sum q p =
+      let a : total f p q + total f (q + p) q ≡ total f p (q + q) = total_join p q q (q + p) (omega arith) in
+      let b : total f (2 * q + p) q + total f (3 * q + p) q ≡ total f (2 * q + p) (q + q) = total_join (2 * q + p) q q (3 * q + p) (omega arith) in
+      let c : total f (4 * q + p) q + total f (5 * q + p) q ≡ total f (4 * q + p) (q + q) = total_join (4 * q + p) q q (5 * q + p) (omega arith) in
+      let d : total f (6 * q + p) q + total f (7 * q + p) q ≡ total f (6 * q + p) (q + q) = total_join (6 * q + p) q q (7 * q + p) (omega arith) in
+      let e : total f p (q + q) + total f (2 * q + p) (q + q) ≡ total f p (q + q + (q + q)) = total_join p (q + q) (q + q) (2 * q + p) (omega arith) in
+      let g : total f (4 * q + p) (q + q) + total f (6 * q + p) (q + q) ≡ total f (4 * q + p) (q + q + (q + q)) = total_join (4 * q + p) (q + q) (q + q) (6 * q + p) (omega arith) in
+      let h : total f p (q + q + (q + q)) + total f (4 * q + p) (q + q + (q + q)) ≡ total f p (q + q + (q + q) + (q + q + (q + q))) = total_join p (q + q + (q + q)) (q + q + (q + q)) (4 * q + p) (omega arith) in
+      let j : total f p (q + q + (q + q) + (q + q + (q + q))) ≡ total f p (8 * q) = ap (total f p) (omega arith) in
+      let i : in_eighths q p q ≡ total f p (8 * q) = omega arith in
+      in_eighths_sum q p q ∙ i
 
   -- the first place, and those behind it
   pub total_front : (k : ℕ) → total f 0 (suc k) ≡ f 0 + total (λ (p : ℕ). f (suc p)) 0 k
@@ -214,14 +218,14 @@ module _ (step n : ℕ) (ws : List ℕ) (some : 0 < length ws) where
 -- what `spaced` says
 module _ (step n : ℕ) (ws : List ℕ) (some : 0 < length ws) where
   spaced_yes : spaced step n ws ≡ true → (offset (get_or ws 0 0) ≡ 0) × UpBy step n ws
-  unfolding spaced framed
+  unfolding spaced framed never_falls
   spaced_yes e =
       let a = and_true _ _ e in
       let b = and_true _ _ a.0 in
       (eqb-true _ _ b.0, none_up step n ws some (eqb-true _ _ a.1) (leb-true _ _ b.1))
 
   yes_spaced : offset (get_or ws 0 0) ≡ 0 → UpBy step n ws → spaced step n ws ≡ true
-  unfolding spaced framed
+  unfolding spaced framed never_falls
   yes_spaced f u = and_both _ _ (and_both _ _ (eq-eqb _ _ f) (le-leb _ _ (up_last step n ws some u))) (eq-eqb _ _ (up_none step n ws some u))
 
 -- two tests that follow from one another
@@ -251,43 +255,72 @@ module _ (n : ℕ) (ws : List ℕ) (some : 0 < length ws) where
 
 -- ---- both told of one number
 
-module _ (step f a : ℕ) (ws : List ℕ) where
-  pub marks_apart : (p k : ℕ) → total (mark step f a ws) p k ≡ f * total (fall step ws) p k + a * total (alike ws) p k
+module _ (step a : ℕ) (ws : List ℕ) where
+  pub marks_apart : (p k : ℕ) → total (mark step a ws) p k ≡ 16777216 * total (fall step ws) p k + a * total (alike ws) p k
   unfolding total
-  marks_apart p zero = omega (arith, mul-zero f, mul-zero a)
-  marks_apart p (suc k) = omega (arith, marks_apart p k, mul-add f (total (fall step ws) p k) (fall step ws (p + k)), mul-add a (total (alike ws) p k) (alike ws (p + k)))
+  marks_apart p zero = omega (arith, mul-zero a)
+  marks_apart p (suc k) = omega (arith, marks_apart p k, mul-add a (total (alike ws) p k) (alike ws (p + k)))
 
-  -- they fit where the list is countable
-  pub marks_fit : (p k : ℕ) → k ≤ length ws → length ws * (f + a) < 2 ^ 64 → total (mark step f a ws) p k < 2 ^ 64
-  marks_fit p k h few = omega (arith, total_le (mark step f a ws) (f + a) (mark_le step f a ws) p k, mul-le-mul_right (f + a) h, few)
+  -- the gaps lead from the first offset to the last, with what is counted on the way
+  pub gaps_lead : step ≤ 1 → (p k : ℕ) → offset (get_or ws p 0) + step * k + total (gap step a ws) p k ≡ offset (get_or ws (p + k) 0) + total (mark step a ws) p k
+  unfolding total
+  gaps_lead s p zero =
+      let e : offset (get_or ws p 0) ≡ offset (get_or ws (p + 0) 0) = ap (λ (i : ℕ). offset (get_or ws i 0)) (sym (add-zero p)) in
+      omega (arith, mul-zero step)
+  gaps_lead s p (suc k) =
+      let e : offset (get_or ws (p + k + 1) 0) ≡ offset (get_or ws (p + suc k) 0) = ap (λ (i : ℕ). offset (get_or ws i 0)) (omega arith) in
+      omega (arith, gaps_lead s p k, gap_leads step ws (p + k) a s, mul-suc step k)
 
-pub eight_fit : (most k : ℕ) → 8 ≤ k → k * most < 2 ^ 64 → 8 * most < 2 ^ 64
-eight_fit most k h few = omega (arith, mul-le-mul_right most h, few)
+  -- of not too many places they are a number of 64 bits
+  pub gaps_fit : a ≤ 1 → (p k : ℕ) → k ≤ 16777216 → total (gap step a ws) p k ≤ 281474976710656
+  gaps_fit h p k few = omega (arith, total_le (gap step a ws) 16777216 (λ q. gap_le step a ws q h) p k)
 
--- only the falls
-pub falls_alone : (step : ℕ) (ws : List ℕ) (p k : ℕ) → total (mark step 1 0 ws) p k ≡ total (fall step ws) p k
-falls_alone step ws p k = omega (arith, marks_apart step 1 0 ws p k, zero-mul (total (alike ws) p k))
+-- places in two parts
+pub two_parts : (f : ℕ → ℕ) (p a k until : ℕ) → a ≤ k → p + k ≡ until → total f p a + total f (p + a) (until - (p + a)) ≡ total f p k
+two_parts f p a k until h e =
+    let j : total f p a + total f (p + a) (until - (p + a)) ≡ total f p (a + (until - (p + a))) = total_join f p a (until - (p + a)) (p + a) refl in
+    let q : total f p (a + (until - (p + a))) ≡ total f p k = ap (total f p) (omega arith) in
+    omega arith
 
 -- one fall weighs more than all the places that are alike
 module _ (step : ℕ) (ws : List ℕ) (k : ℕ) (few : k < 16777216) where
   pub alike_few : total (alike ws) 0 k ≤ k
   alike_few = omega (arith, total_le (alike ws) 1 (alike_le ws) 0 k, mul-one k)
 
-  pub marks_many : 16777216 ≤ total (mark step 16777216 1 ws) 0 k → total (fall step ws) 0 k ≡ 0 → ⊥
-  marks_many h e = omega (arith, marks_apart step 16777216 1 ws 0 k, alike_few)
+  pub marks_many : 16777216 ≤ total (mark step 1 ws) 0 k → total (fall step ws) 0 k ≡ 0 → ⊥
+  marks_many h e = omega (arith, marks_apart step 1 ws 0 k, alike_few)
 
-  pub marks_few : total (mark step 16777216 1 ws) 0 k < 16777216 → (total (fall step ws) 0 k ≡ 0) × (total (mark step 16777216 1 ws) 0 k ≡ total (alike ws) 0 k)
+  pub marks_few : total (mark step 1 ws) 0 k < 16777216 → (total (fall step ws) 0 k ≡ 0) × (total (mark step 1 ws) 0 k ≡ total (alike ws) 0 k)
   marks_few h =
-      let none : total (fall step ws) 0 k ≡ 0 = omega (arith, marks_apart step 16777216 1 ws 0 k) in
-      (none, omega (arith, marks_apart step 16777216 1 ws 0 k, none))
+      let none : total (fall step ws) 0 k ≡ 0 = omega (arith, marks_apart step 1 ws 0 k) in
+      (none, omega (arith, marks_apart step 1 ws 0 k, none))
 
--- ---- all places, in two parts
+-- ---- all places, part by part
 
-module _ (f : ℕ → ℕ) (k eighth : ℕ) (inside : 8 * eighth ≤ k) where
-  pub two_parts : total f 0 (8 * eighth) + total f (8 * eighth) (k - 8 * eighth) ≡ total f 0 k
-  two_parts =
-      let e : 8 * eighth + (k - 8 * eighth) ≡ k = omega arith in
-      total_join f 0 (8 * eighth) (k - 8 * eighth) (8 * eighth) (omega arith) ∙ ap (total f 0) e
+module _ (step : ℕ) (ws : List ℕ) (k from part : ℕ) (inside : from + part ≤ k) (marks : ℕ) (are : marks ≡ total (mark step 0 ws) from part) (none : total (fall step ws) 0 from ≡ 0) where
+  part_none : total (mark step 0 ws) from part ≡ 16777216 * total (fall step ws) from part
+  part_none = omega (arith, marks_apart step 0 ws from part, zero-mul (total (alike ws) from part))
+
+  parts_join : total (fall step ws) 0 from + total (fall step ws) from part ≡ total (fall step ws) 0 (from + part)
+  parts_join = total_join (fall step ws) 0 from part from (omega arith)
+
+  pub more_none : marks ≡ 0 → total (fall step ws) 0 (from + part) ≡ 0
+  more_none e = omega (arith, part_none, parts_join)
+
+  pub some_fall : (marks ≡ 0 → ⊥) → length ws - 1 ≡ k → false ≡ never_falls step ws
+  unfolding never_falls
+  some_fall e l =
+      let r : total (fall step ws) 0 (from + part) + total (fall step ws) (from + part) (k - (from + part)) ≡ total (fall step ws) 0 (from + part + (k - (from + part))) = total_join (fall step ws) 0 (from + part) (k - (from + part)) (from + part) (omega arith) in
+      let q : total (fall step ws) 0 (from + part + (k - (from + part))) ≡ total (fall step ws) 0 (length ws - 1) = ap (total (fall step ws) 0) (omega arith) in
+      sym (ne_eqb _ _ (λ z. e (omega (arith, part_none, parts_join))))
+
+  pub none_falls : from + part ≡ k → length ws - 1 ≡ k → eqb marks 0 ≡ never_falls step ws
+  unfolding never_falls
+  none_falls d l =
+      let q : total (fall step ws) 0 (from + part) ≡ total (fall step ws) 0 (length ws - 1) = ap (total (fall step ws) 0) (omega arith) in
+      same_tests (eqb marks 0) (eqb (total (fall step ws) 0 (length ws - 1)) 0)
+      (λ e. eq-eqb _ _ (omega (arith, eqb-true marks 0 e, part_none, parts_join)))
+      (λ e. eq-eqb _ _ (omega (arith, eqb-true (total (fall step ws) 0 (length ws - 1)) 0 e, part_none, parts_join)))
 
 -- ---- the parts of the test
 
@@ -300,7 +333,7 @@ module _ (step n : ℕ) (ws : List ℕ) where
   unfolding framed
   framed_no e = rw (ne_eqb _ _ e) refl
 
-  pub spaced_framed : framed step n ws ≡ true → eqb (total (fall step ws) 0 (length ws - 1)) 0 ≡ spaced step n ws
+  pub spaced_framed : framed step n ws ≡ true → never_falls step ws ≡ spaced step n ws
   unfolding spaced
   spaced_framed e = rw e refl
 

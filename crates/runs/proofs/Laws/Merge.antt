@@ -22,7 +22,7 @@ use Rattle.runs.specs.Rotate.{merged}
 use Rattle.runs.specs.Reverse.{reverse_runs, oriented}
 use Rattle.runs.specs.Inside.Lists.{Sharp, Steady}
 use Rattle.runs.specs.Inside.Cursor.{begins, merged_from}
-use Rattle.runs.specs.Inside.Falls.{alike, fall, framed, mark, total}
+use Rattle.runs.specs.Inside.Falls.{alike, fall, framed, mark, never_falls, total}
 use Rattle.runs.specs.Inside.Pieces.{drops_first}
 use Rattle.runs.proofs.Laws.Words.{coordinate_pack, pack_of}
 use Rattle.runs.proofs.Laws.Orders.{Up, UpBy, StrictUp, first_up, tail_up, next_le, last_cons, sharp_yes, strict_offsets}
@@ -405,16 +405,18 @@ module _ (n : ℕ) (ws : List ℕ) where
     pub unframed_count : framed 1 n ws ≡ false → ◌≡◌ {A = Option ℕ} None (merged_count n ws)
     unframed_count e = count_none (sharp_spaced n ws some ∙ sym (spaced_unframed 1 n ws e))
 
-    module _ (frame : framed 1 n ws ≡ true) (few : length ws ≤ 16777216) (marks : ℕ) (are : marks ≡ total (mark 1 16777216 1 ws) 0 (length ws - 1)) where
+    module _ (frame : framed 1 n ws ≡ true) (few : length ws ≤ 16777216) (marks : ℕ) (are : marks ≡ total (mark 1 1 ws) 0 (length ws - 1)) where
       pub falling_count : 16777216 ≤ marks → ◌≡◌ {A = Option ℕ} None (merged_count n ws)
+      unfolding never_falls
       falling_count h = count_none (sharp_spaced n ws some ∙ sym (spaced_framed 1 n ws frame) ∙ ne_eqb _ _ (marks_many 1 ws (length ws - 1) (omega arith) (omega arith)))
 
       module _ (h : marks < 16777216) where
-        told : (total (fall 1 ws) 0 (length ws - 1) ≡ 0) × (total (mark 1 16777216 1 ws) 0 (length ws - 1) ≡ total (alike ws) 0 (length ws - 1))
+        told : (total (fall 1 ws) 0 (length ws - 1) ≡ 0) × (total (mark 1 1 ws) 0 (length ws - 1) ≡ total (alike ws) 0 (length ws - 1))
         told = marks_few 1 ws (length ws - 1) (omega arith) (omega arith)
 
         pub alike_inside : marks ≤ length ws
         alike_inside = omega (arith, told.1, alike_few 1 ws (length ws - 1) (omega arith))
 
         pub sharp_count : ◌≡◌ {A = Option ℕ} (Some (length ws - marks)) (merged_count n ws)
+        unfolding never_falls
         sharp_count = count_some (length ws - marks) (sharp_spaced n ws some ∙ sym (spaced_framed 1 n ws frame) ∙ eq-eqb _ _ told.0) (omega (arith, told.1, merge_long ws))

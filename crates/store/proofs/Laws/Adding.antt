@@ -9,10 +9,10 @@ use lib.ListN.{length, set, take, drop, length-drop}
 use lib.Dec.{ltb}
 use borrow.Author.Tests.{le-ltb, ltb-false, not-false}
 use borrow.Rule.Slice.PartMut.{mid_of, put_mid}
-use Rattle.std.proofs.Common.{Result, Ok, Some, None, IsOk}
+use Rattle.std.proofs.Common.{Result, Ok, Err, Some, None, IsOk}
 use Rattle.std.proofs.Common as std
 use Rattle.std.specs.Result.{result_transpose}
-use Rattle.base.specs.Answers.{Answer, done, of_written}
+use Rattle.base.specs.Answers.{Answer, done, number_of, of_written, refused}
 use Rattle.base.specs.Parts.{over}
 use Rattle.base.specs.declared.Refusal.{Refusal}
 use Rattle.base.specs.Tests.{◌when◌else◌}
@@ -23,14 +23,17 @@ use Rattle.codec.specs.Records as records
 use Rattle.runs.specs.Words.{coordinate_of}
 use Rattle.store.specs.Add.{add_cell, add_filed, add_test, no_space, same_add}
 use Rattle.store.specs.Filed.{reads_as, record_start, set_at, set_from, set_in, unnamed}
+use Rattle.store.specs.Inside.Adding.{add_next, set_found}
 use Rattle.store.specs.Inside.Fits.{AddFits, AddReady}
-use Rattle.store.specs.Numbered.{Gate, numbered}
+use Rattle.store.specs.Numbered.{Gate, Test, by_gate, by_sequence, numbered, repeated, sequence_of, tested}
 use Rattle.store.specs.State.{after, of_answer, put}
+use Rattle.store.specs.declared.numbered.Sequence.{Sequence}
+use Rattle.store.specs.declared.numbered.Sequence.TheVariants.{New, Repeat}
 use Rattle.store.specs.declared.state.Cell.{Cell}
 use Rattle.store.specs.declared.state.Last.{Last}
 use Rattle.store.specs.declared.state.Last.TheVariants as last
 use Rattle.store.proofs.Laws.Parts.{part_whole, rest_is}
-use Rattle.store.proofs.Laws.Tested.{told_written, is_ok_at, gate_goes, gate_told, gate_went, refuse_go, said_go}
+use Rattle.store.proofs.Laws.Tested.{told_written, is_ok_at, gate_told, gate_went, refuse_go}
 
 -- ---- the record that a coordinate names
 
@@ -63,7 +66,7 @@ part_reads r N c file ids at h b e =
 
 -- ---- what is known where add may go
 
-ready : (N : ℕ) (c : Cell) (ids : List ℕ) (f n : ℕ) → AddFits N c f n → add_test N c ids ≡ Ok tt → AddReady N c ids f n
+pub ready : (N : ℕ) (c : Cell) (ids : List ℕ) (f n : ℕ) → AddFits N c f n → add_test N c ids ≡ Ok tt → AddReady N c ids f n
 unfolding add_test no_space
 ready N c ids f n a e =
     let i = refuse_go _ _ _ e in
@@ -93,23 +96,56 @@ same_part N c file index last.Add ids h = ap (λ (o : Option (List ℕ)). reads_
 same_part N c file index (last.Join n r) ids h = refl
 same_part N c file index (last.Close v) ids h = refl
 
--- ---- what the gate of an add told: the three laws of every gate (Tested), of what an add is; Closing and Joining have theirs
+-- ---- the tests behind the gate
+
+found_refused : (N : ℕ) (ids : List ℕ) (t : Test) (r : Refusal) → Err r ≡ set_found N ids t → t ≡ Err r
+found_refused N ids (Err r) q e = cc
+found_refused N ids (Ok _) q e = let z : ◌≡◌ {A = ℕ} 0 1 = cc in absurd (omega arith)
+
+found_set : (N : ℕ) (ids : List ℕ) (t : Test) (m : ℕ × List ℕ) → Ok m ≡ set_found N ids t → (t ≡ Ok tt) × (m ≡ (N, ids))
+found_set N ids (Err r) m e = let z : ◌≡◌ {A = ℕ} 0 1 = cc in absurd (omega arith)
+found_set N ids (Ok _) m e = (refl, cc)
+
+module _ (N : ℕ) (c : Cell) (i : ℕ) (ids file index : List ℕ) where
+  pub next_refused : (r : Refusal) → Err r ≡ set_found N ids (add_test N c ids) → (refused (number_of r), c, file, index) ≡ add_next N c i ids file index
+  unfolding by_gate tested
+  next_refused r e = rw (found_refused N ids (add_test N c ids) r e) refl
+
+  pub next_goes : (m : ℕ × List ℕ) → Ok m ≡ set_found N ids (add_test N c ids) → AddFits N c (length file) (length index) → AddReady m.0 c m.1 (length file) (length index)
+  next_goes m e a =
+      let f = found_set N ids (add_test N c ids) m e in
+      rw f.1 (ready N c ids _ _ a f.0)
+
+  pub next_filed : (m : ℕ × List ℕ) → Ok m ≡ set_found N ids (add_test N c ids) → (x : Answer × Cell × List ℕ × List ℕ) → x ≡ add_filed m.0 c i m.1 file index → x ≡ add_next N c i ids file index
+  unfolding by_gate tested
+  next_filed m e x k =
+      let f = found_set N ids (add_test N c ids) m e in
+      rw f.0 (k ∙ ap (λ (s : ℕ × List ℕ). add_filed s.0 c i s.1 file index) f.1)
+
+-- ---- what the gate of an add told, which has no tests: the laws of every gate (Tested), of what an add is; Closing and Joining have theirs
+
+-- the tests of a call, behind its gate or in it
+tests_behind : {R : Type 0} (t : Result Sequence Refusal) (same : Bool) (a : ℕ) (tests : Test) (told : Answer → R) (go : R)
+    → by_gate (by_sequence t (repeated same a) (Ok tt)) told (by_gate (tested tests) told go) ≡ by_gate (by_sequence t (repeated same a) tests) told go
+unfolding by_gate by_sequence tested repeated ◌when◌else◌
+tests_behind (Err r) same a tests told go = refl
+tests_behind (Ok Repeat) true a tests told go = refl
+tests_behind (Ok Repeat) false a tests told go = refl
+tests_behind (Ok New) same a tests told go = refl
 
 module _ (N : ℕ) (c : Cell) (i : ℕ) (ids file index : List ℕ) (fits : AddFits N c (length file) (length index)) (g : Gate) (r : std.Option (Result ℕ Refusal))
-    (h : g ≡ numbered c i (same_add N c (take c.records.used file) index c.last ids) (add_test N c ids)) (e : r ≡ result_transpose g) where
-  gate_is : g ≡ numbered c i (same_add N c file index c.last ids) (add_test N c ids)
-  gate_is = h ∙ ap (λ (t : Bool). numbered c i t (add_test N c ids)) (same_part N c file index c.last ids (omega (arith, fits.records.inside)))
+    (h : g ≡ numbered c i (same_add N c (take c.records.used file) index c.last ids) (Ok tt)) (e : r ≡ result_transpose g) where
+  cell_is : by_gate g (λ (a : Answer). (a, c, file, index)) (add_next N c i ids file index) ≡ add_cell N c i ids file index
+  unfolding add_cell numbered
+  cell_is =
+      ap (λ (x : Gate). by_gate x (λ (a : Answer). (a, c, file, index)) (add_next N c i ids file index)) (h ∙ ap (λ (t : Bool). numbered c i t (Ok tt)) (same_part N c file index c.last ids (omega (arith, fits.records.inside))))
+      ∙ tests_behind (sequence_of c.number i) (same_add N c file index c.last ids) c.answer (add_test N c ids) (λ (a : Answer). (a, c, file, index)) (add_filed N c i ids file index)
 
   pub add_told : (a : Result ℕ Refusal) → r ≡ Some a → ◌≡◌ {A = Answer × Cell × List ℕ × List ℕ} (of_answer a, c, file, index) (add_cell N c i ids file index)
-  unfolding add_cell
-  add_told a q = rw (← gate_is) (gate_told g (λ (x : Answer). (x, c, file, index)) (add_filed N c i ids file index) r e a q)
+  add_told a q = gate_told g (λ (x : Answer). (x, c, file, index)) (add_next N c i ids file index) r e a q ∙ cell_is
 
-  pub add_goes : r ≡ None → AddReady N c ids (length file) (length index)
-  add_goes q = ready N c ids _ _ fits (said_go c i _ _ (sym gate_is ∙ gate_goes g (λ (x : Answer). x) (done []) r e q))
-
-  pub add_done : r ≡ None → (x : Answer × Cell × List ℕ × List ℕ) → x ≡ add_filed N c i ids file index → x ≡ add_cell N c i ids file index
-  unfolding add_cell
-  add_done q x k = rw (← gate_is) (gate_went g (λ (x : Answer). (x, c, file, index)) (add_filed N c i ids file index) r e q x k)
+  pub add_done : r ≡ None → (x : Answer × Cell × List ℕ × List ℕ) → x ≡ add_next N c i ids file index → x ≡ add_cell N c i ids file index
+  add_done q x k = gate_went g (λ (y : Answer). (y, c, file, index)) (add_next N c i ids file index) r e q x k ∙ cell_is
 
 -- ---- the record is written
 

@@ -1,10 +1,9 @@
 -- `gaps::gaps_len` meets its contract.
-use Prim.Native.Nat.{ℕ}
-use mathlib.Core.Path.{refl, sym, ap, ◌∙◌}
+use mathlib.Core.Path.{refl}
 use mathlib.Core.List.{[], ◌++◌}
 use native.Mathlib.Omega.{arith}
-use lib.ListN.{length, length-append}
-use Rattle.codec.proofs.Laws.Coded.{coding_start, coding_on, coding_end}
+use lib.ListN.{length-append}
+use Rattle.codec.proofs.Laws.Coded.{coding_start, coding_on}
 use Rattle.codec.proofs.gaps.gaps_len.Goals as goal
 
 pub loop-count-init : goal.loop-count-init

@@ -1,9 +1,9 @@
 -- `gaps::next_bits` meets its contract.
-use Prim.Native.Nat.{ℕ, ◌+◌, ◌-◌}
-use mathlib.Core.Path.{sym, ap, ◌∙◌}
+use Prim.Native.Nat.{◌-◌}
+use mathlib.Core.Path.{sym}
 use mathlib.Core.List.{◌++◌}
 use native.Mathlib.Omega.{arith}
-use lib.ListN.{length, length-append}
+use lib.ListN.{length-append}
 use Rattle.codec.specs.Bits.{low_bits}
 use Rattle.codec.specs.Codes.{delta}
 use Rattle.codec.proofs.Laws.Low.{length_low}

@@ -1,11 +1,11 @@
--- `codec::records::payload_len` meets its contract.
+-- `codec::measured::payload_len` meets its contract.
 use Prim.Native.Nat.{ℕ}
 use mathlib.Core.Path.{◌≡◌, sym, ap, ◌∙◌}
 use native.Mathlib.Omega.{arith}
 use Rattle.std.specs.Int.{div_ceil}
 use Rattle.codec.specs.Bits.{bytes_for}
 use Rattle.codec.proofs.Laws.Sizes.{length_payload}
-use Rattle.codec.proofs.records.payload_len.Goals as goal
+use Rattle.codec.proofs.measured.payload_len.Goals as goal
 
 rounded : (n : ℕ) → div_ceil n 8 ≡ bytes_for n
 rounded n = omega arith
