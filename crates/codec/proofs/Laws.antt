@@ -17,6 +17,8 @@ pub mod Coded
 pub mod Bitmaps
 pub mod Chunks
 pub mod Filled
+pub mod Fronts
+pub mod Rows
 pub mod Sizes
 pub mod Flat
 pub mod Encoded

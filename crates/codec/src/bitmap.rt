@@ -1,12 +1,12 @@
 // A set as one bit for each id below the colour count, in chunks of at most 32 bits.
 // `as` below: no `From` leads between u32 and usize, and no number is cut by it, which is proved.
-ghost use Rattle.std.specs.Prelude.{◌≡◌, ◌++◌, ◌+◌, ◌-◌, ◌*◌, ◌<◌, ◌≤◌, ◌^◌, min, length, take, drop};
+ghost use Rattle.std.specs.Prelude.{◌≡◌, ◌++◌, ◌+◌, ◌-◌, ◌*◌, ◌<◌, ◌≤◌, ◌^◌, min, length, get_or, take};
 ghost use Rattle.base.specs.Parts.{over};
 ghost use Rattle.codec.specs.Bits.{low_bits};
 ghost use Rattle.codec.specs.Sets.{map_bits, ids_of};
 ghost use Rattle.codec.specs.Inside.Writers.{Ready, Wrote};
 ghost use Rattle.codec.specs.Inside.Gaps.{Ahead, BitsAt};
-ghost use Rattle.codec.specs.Inside.Bitmaps.{MapOf};
+ghost use Rattle.codec.specs.Inside.Bitmaps.{MapOf, Front};
 ghost use Rattle.codec.specs.Inside.Bodies.{map_in};
 
 use crate::bits::BitWriter;
@@ -84,14 +84,43 @@ pub(crate) fn same_map(source: Source, at: usize, set: ColorSet) -> Option<usize
     Some(at + set.colors.n as usize)
 }
 
-// The ids that the low `width` bits of `word` tell, from `base` on, to place `k` of `out` on: the place
-// behind them.
-fn fill_chunk(word: u64, width: u32, base: u32, out: &mut [u32], k: usize) -> usize
-    requires width_bound { (width ≤ 32) × (word < 2 ^ width) × (base + width < 2 ^ 32) }
-    requires word_in_bounds { k + length (ids_of base (low_bits width word)) ≤ length out.old }
-    ensures { (result ≡ k + length (ids_of base (low_bits width word))) × (out.new ≡ over (take k out.old ++ ids_of base (low_bits width word)) out.old) }
+// The places of the ones among four bits, lowest first, and then zeros: four numbers for each value of the bits.
+static PLACES: [u32; 64] = [
+    0, 0, 0, 0, 0, 0, 0, 0, 1, 0, 0, 0, 0, 1, 0, 0, 2, 0, 0, 0, 0, 2, 0, 0, 1, 2, 0, 0, 0, 1, 2, 0,
+    3, 0, 0, 0, 0, 3, 0, 0, 1, 3, 0, 0, 0, 1, 3, 0, 2, 3, 0, 0, 0, 2, 3, 0, 1, 2, 3, 0, 0, 1, 2, 3,
+];
+
+// How many ones are among four bits.
+static ONES: [u8; 16] = [0, 1, 1, 2, 1, 2, 2, 3, 1, 2, 2, 3, 2, 3, 3, 4];
+
+// Place `j` of the ones among four bits, or 0.
+fn place_in(four: u64, j: usize) -> u32
+    requires { (four < 16) × (j < 4) }
+    ensures { (result ≡ get_or (ids_of 0 (low_bits 4 four)) j 0) × (result < 4) }
 {
-    let mut left = word;
+    PLACES[4 * four as usize + j]
+}
+
+// The ids that four bits tell, from `base` on, to place `k` of `out` on: the place behind them. Four places are
+// written whatever the bits are, so that nothing branches on a bit.
+fn fill_row(four: u64, base: u32, out: &mut [u32], k: usize) -> usize
+    requires { (four < 16) × (base + 4 < 2 ^ 32) × (k + 4 ≤ length out.old) }
+    ensures told { result ≡ k + length (ids_of base (low_bits 4 four)) }
+    ensures filled { Front (take k out.old ++ ids_of base (low_bits 4 four)) (k + 4) out.old out.new }
+{
+    for j in 0..4 {
+        out[k + j] = base + place_in(four, j);
+    }
+    k + ONES[four as usize] as usize
+}
+
+// The same, where no more places are written than there are ids.
+fn fill_bits(four: u64, base: u32, out: &mut [u32], k: usize) -> usize
+    requires bounds { (four < 16) × (base + 4 < 2 ^ 32) }
+    requires space { k + length (ids_of base (low_bits 4 four)) ≤ length out.old }
+    ensures { (result ≡ k + length (ids_of base (low_bits 4 four))) × (out.new ≡ over (take k out.old ++ ids_of base (low_bits 4 four)) out.old) }
+{
+    let mut left = four;
     let mut at = k;
     // It goes over the bits that are left, and no range of them is known before.
     while left != 0 {
@@ -99,6 +128,33 @@ fn fill_chunk(word: u64, width: u32, base: u32, out: &mut [u32], k: usize) -> us
         out[at] = base + z;
         left -= 1u64 << z;
         at += 1;
+    }
+    at
+}
+
+// The ids that four bits tell, where places of `out` are left up to `count`.
+fn fill_four(four: u64, base: u32, count: usize, out: &mut [u32], k: usize) -> usize
+    requires bounds { (four < 16) × (base + 4 < 2 ^ 32) × (count ≤ length out.old) }
+    requires space { k + length (ids_of base (low_bits 4 four)) ≤ count }
+    ensures told { result ≡ k + length (ids_of base (low_bits 4 four)) }
+    ensures filled { Front (take k out.old ++ ids_of base (low_bits 4 four)) count out.old out.new }
+{
+    if k + 4 <= count {
+        return fill_row(four, base, out, k);
+    }
+    fill_bits(four, base, out, k)
+}
+
+// The ids that the 32 bits of `word` tell, likewise.
+fn fill_chunk(word: u64, base: u32, count: usize, out: &mut [u32], k: usize) -> usize
+    requires bounds { (base + 32 < 2 ^ 32) × (count ≤ length out.old) }
+    requires space { k + length (ids_of base (low_bits 32 word)) ≤ count }
+    ensures told { result ≡ k + length (ids_of base (low_bits 32 word)) }
+    ensures filled { Front (take k out.old ++ ids_of base (low_bits 32 word)) count out.old out.new }
+{
+    let mut at = k;
+    for j in 0..8u32 {
+        at = fill_four((word >> (4 * j)) % 16, base + 4 * j, count, out, at);
     }
     at
 }
@@ -124,19 +180,16 @@ impl Body<'_> {
     // The ids that a bitmap tells, to the front of `out`.
     pub(crate) fn fill_map(self, out: &mut [u32])
         requires place { self.at + self.colors.n ≤ 8 * length self.source.bytes.now }
-        requires space { length (ids_of 0 (map_in self)) ≤ length out.old }
+        requires counted { length (ids_of 0 (map_in self)) ≡ self.count }
+        requires space { self.count ≤ length out.old }
         ensures { out.new ≡ over (ids_of 0 (map_in self.entry)) out.old }
     {
         let n = self.colors.n;
         let mut k: usize = 0;
         for base in (0..n).step_by(32) {
-            let width = chunk_width(base, n);
-            let word = crate::bits::bits_at(
-                self.source.bytes,
-                self.at + base as usize,
-                width as usize,
-            );
-            k = fill_chunk(word, width, base, out, k);
+            let width = chunk_width(base, n) as usize;
+            let word = crate::bits::bits_at(self.source.bytes, self.at + base as usize, width);
+            k = fill_chunk(word, base, self.count, out, k);
         }
     }
 }

@@ -2,8 +2,8 @@
 use Prim.Native.Nat.{ℕ, zero, suc, ◌+◌, ◌-◌, ◌*◌, ◌/◌, ◌%◌, ◌^◌, ◌≤◌, ◌<◌}
 use mathlib.Core.Path.{◌≡◌, refl, sym, ap, ap₂, ◌∙◌, subst}
 use mathlib.Core.Bool.{Bool, true, false}
-use mathlib.Core.List.{List, [], ◌∷◌, ◌++◌}
-use native.Mathlib.Nat.{pow-suc, mul_assoc, zero-add, lt_of_not-le, not-le_of_lt, le_trans}
+use mathlib.Core.List.{List, [], ◌∷◌, ◌++◌, append-nil}
+use native.Mathlib.Nat.{pow-suc, mul_assoc, zero-add, lt_of_not-le, not-le_of_lt, le_trans, div-eq_of_lt}
 use native.Mathlib.Omega.{arith}
 use lib.ListN.{length, take, drop, replicate, length-append, length-drop}
 use lib.Seq.{take-add, length-take-le}
@@ -11,7 +11,7 @@ use lib.Count.{ones, ones_step, count_trailing_zeros, under}
 use lib.Pow.{pow_pos, pow_mono}
 use Rattle.codec.specs.Bits.{low_bits, value_of}
 use Rattle.codec.specs.Sets.{ids_of}
-use Rattle.codec.proofs.Laws.Low.{low_join, low_value}
+use Rattle.codec.proofs.Laws.Low.{length_low, low_add, low_join, low_value}
 use Rattle.codec.proofs.Laws.Bits.{low_zero}
 
 pub ids_append : (us vs : List Bool) (from : ℕ) → ids_of from (us ++ vs) ≡ ids_of from us ++ ids_of (from + length us) vs
@@ -146,3 +146,25 @@ pub low_none : (width base : ℕ) → ids_of base (low_bits width 0) ≡ []
 unfolding ids_of low_bits
 low_none zero base = refl
 low_none (suc width) base = low_none width (base + 1)
+
+-- ---- a number's ids in parts
+
+module _ (word base : ℕ) where
+  -- those of p bits, and those of c bits more
+  pub ids_join : (p c : ℕ) → ids_of base (low_bits (p + c) word) ≡ ids_of base (low_bits p word) ++ ids_of (base + p) (low_bits c (word / 2 ^ p))
+  ids_join p c =
+      ap (ids_of base) (low_add p c word) ∙ ids_append (low_bits p word) (low_bits c (word / 2 ^ p)) base
+      ∙ ap (λ (n : ℕ). ids_of base (low_bits p word) ++ ids_of (base + n) (low_bits c (word / 2 ^ p))) (length_low p word)
+
+  module _ (p q : ℕ) (h : p ≤ q) where
+    parts : ids_of base (low_bits q word) ≡ ids_of base (low_bits p word) ++ ids_of (base + p) (low_bits (q - p) (word / 2 ^ p))
+    parts = let e : q ≡ p + (q - p) = omega arith in ap (λ (n : ℕ). ids_of base (low_bits n word)) e ∙ ids_join p (q - p)
+
+    pub ids_fewer : length (ids_of base (low_bits p word)) ≤ length (ids_of base (low_bits q word))
+    ids_fewer = omega (arith, ap length parts, length-append (ids_of base (low_bits p word)) (ids_of (base + p) (low_bits (q - p) (word / 2 ^ p))))
+
+    -- bits that are 0 tell none
+    pub ids_wider : word < 2 ^ p → ids_of base (low_bits q word) ≡ ids_of base (low_bits p word)
+    ids_wider l =
+        parts ∙ ap (λ (n : ℕ). ids_of base (low_bits p word) ++ ids_of (base + p) (low_bits (q - p) n)) (div-eq_of_lt l)
+        ∙ ap (λ (l : List ℕ). ids_of base (low_bits p word) ++ l) (low_none (q - p) (base + p)) ∙ append-nil (ids_of base (low_bits p word))

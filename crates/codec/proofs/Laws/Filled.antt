@@ -22,7 +22,7 @@ over_set xs old i x e h =
     let n : length (xs ++ (x ∷ [])) ≡ i + 1 = length-append xs (x ∷ []) ∙ ap (λ (k : ℕ). k + 1) e in
     rw (n, add-one i, e, drop-cons old i 0 h) (set_at xs (get_or old i 0) (drop (suc i) old) x i e ∙ sym (append_snoc xs x (drop (suc i) old)))
 
-over_take : (xs old : List ℕ) (k : ℕ) → length xs ≡ k → take k (over xs old) ≡ xs
+pub over_take : (xs old : List ℕ) (k : ℕ) → length xs ≡ k → take k (over xs old) ≡ xs
 unfolding over
 over_take xs old k e = take_at xs (drop (length xs) old) k e
 

@@ -1,87 +1,52 @@
-use Prim.Native.Nat.{ℕ, suc, ◌*◌, ◌%◌, ◌≤◌, ◌-◌, ◌<◌, ◌+◌, ◌^◌}
-use mathlib.Core.Path.{◌≡◌, refl, sym, ap, ◌∙◌}
-use mathlib.Core.List.{List, [], ◌++◌, ◌∷◌, append_assoc, append-nil}
+use Prim.Native.Nat.{ℕ, ◌+◌, ◌*◌, ◌/◌, ◌%◌, ◌^◌, ◌≤◌, ◌<◌}
+use mathlib.Core.Path.{◌≡◌, sym, ap, ◌∙◌, subst}
+use mathlib.Core.Bool.{Bool}
+use mathlib.Core.List.{List, ◌++◌, append_assoc, append-nil}
 use native.Mathlib.Omega.{arith}
-use lib.ListN.{length, take, set, length-set, length-append}
-use lib.Pow.{pow_pos}
-use lib.Count.{count_trailing_zeros}
-use Rattle.base.specs.Parts.{over}
+use lib.ListN.{length, take, length-append}
+use lib.Seq.{length-take-le}
 use Rattle.codec.specs.Bits.{low_bits}
 use Rattle.codec.specs.Sets.{ids_of}
-use Rattle.codec.proofs.Laws.Filled.{over_start, over_next}
-use Rattle.codec.proofs.Laws.Low.{one_shl}
-use Rattle.codec.proofs.Laws.Chunks.{Lowest, lowest, low_none}
+use Rattle.codec.specs.Inside.Bitmaps.{Front}
+use Rattle.codec.proofs.Laws.Low.{low_mod}
+use Rattle.codec.proofs.Laws.Fronts.{front_start, front_more}
+use Rattle.codec.proofs.Laws.Chunks.{ids_join, ids_fewer}
 use Rattle.codec.proofs.bitmap.fill_chunk.Goals as goal
 
--- one id more
-record More (ids ys left : List ℕ) (k at x : ℕ) (out old : List ℕ) : Type 0 where
-  pub parts : ids ≡ ys ++ (x ∷ []) ++ left
-  pub place : at + 1 ≡ k + length (ys ++ (x ∷ []))
-  pub filled : set out at x ≡ over (take k old ++ (ys ++ (x ∷ []))) old
-  pub inside : at < length old
+pub loop-j-init : goal.loop-j-init
+unfolding ids_of low_bits
+loop-j-init c =
+    let a = c.args in
+    record { told = omega arith; filled = rw (append-nil (take a.k a.out.now)) (front_start a.k a.count a.out.now (omega arith)) }
 
-more : (ids ys left : List ℕ) (k at x : ℕ) (out old : List ℕ) → ids ≡ ys ++ x ∷ left → at ≡ k + length ys → k + length ids ≤ length old → out ≡ over (take k old ++ ys) old → More ids ys left k at x out old
-more ids ys left k at x out old i a r e =
-    let n : length ids ≡ length ys + suc (length left) = ap length i ∙ length-append ys (x ∷ left) in
-    record {
-      parts = i ∙ sym (append_assoc ys (x ∷ []) left);
-      place = omega (arith, length-append ys (x ∷ []));
-      filled = over_next old k (omega arith) out ys at x a (omega arith) e;
-      inside = omega arith;
-    }
+-- the ids of four bits more
+module _ (word base j : ℕ) where
+  next : ids_of base (low_bits (4 * (j + 1)) word) ≡ ids_of base (low_bits (4 * j) word) ++ ids_of (base + 4 * j) (low_bits 4 (word / 2 ^ (4 * j) % 16))
+  next =
+      let e : 4 * (j + 1) ≡ 4 * j + 4 = omega arith in
+      ap (λ (n : ℕ). ids_of base (low_bits n word)) e ∙ ids_join word base (4 * j) 4
+      ∙ ap (λ (l : List Bool). ids_of base (low_bits (4 * j) word) ++ ids_of (base + 4 * j) l) (sym (low_mod 4 (word / 2 ^ (4 * j))))
 
--- the bit that a turn takes
-low : (c : goal.In-loop-left) → Lowest c.loop-left.left (count_trailing_zeros 64 c.loop-left.left) c.args.width c.args.base
-low c = lowest c.loop-left.left (count_trailing_zeros 64 c.loop-left.left) c.args.width c.args.base (omega arith) c.loop-left.invariant.0 (omega arith) refl
+  fits : j < 8 → length (ids_of base (low_bits (4 * j) word)) + length (ids_of (base + 4 * j) (low_bits 4 (word / 2 ^ (4 * j) % 16))) ≤ length (ids_of base (low_bits 32 word))
+  fits h =
+      omega (arith, ap length next, length-append (ids_of base (low_bits (4 * j) word)) (ids_of (base + 4 * j) (low_bits 4 (word / 2 ^ (4 * j) % 16))), ids_fewer word base (4 * (j + 1)) 32 (omega arith))
 
-bit : (c : goal.In-loop-left) → 1 * 2 ^ count_trailing_zeros 64 c.loop-left.left % 2 ^ 64 ≡ 2 ^ count_trailing_zeros 64 c.loop-left.left
-bit c = one_shl (count_trailing_zeros 64 c.loop-left.left) (omega (arith, (low c).inside))
+pub fill_four-at-requires-clause-space : goal.fill_four-at-requires-clause-space
+fill_four-at-requires-clause-space c = omega (arith, c.loop-j.invariant.told, fits c.args.word c.args.base c.loop-j.j (omega arith), c.requires.space)
 
-pub loop-left-init : goal.loop-left-init
-loop-left-init c = (omega arith, refl, ([], refl, omega arith, over_start c.args.out.now c.args.k (omega arith)))
-
-step : (c : goal.In-loop-left)
-    → More (ids_of c.args.base (low_bits c.args.width c.args.word)) c.loop-left.invariant.2.0
-    (ids_of c.args.base (low_bits c.args.width (c.loop-left.left - 2 ^ count_trailing_zeros 64 c.loop-left.left))) c.args.k c.loop-left.at
-    (c.args.base + count_trailing_zeros 64 c.loop-left.left) c.loop-left.out c.args.out.now
-step c =
-    let v = c.loop-left.invariant.2 in
-    more _ v.0 _ c.args.k c.loop-left.at _ c.loop-left.out c.args.out.now (v.1 ∙ ap (λ (m : List ℕ). v.0 ++ m) (low c).ids) v.2 c.requires.word_in_bounds v.3
-
-pub overflow_add-out : goal.overflow_add-out
-overflow_add-out c = omega (arith, (low c).inside)
-
-pub offset_bounds-out-at : goal.offset_bounds-out-at
-offset_bounds-out-at c = omega (arith, (step c).inside)
-
-pub bounds-out-at : goal.bounds-out-at
-bounds-out-at c = omega (arith, (step c).inside)
-
-pub overflow_cast-left : goal.overflow_cast-left
-overflow_cast-left c = omega (arith, (low c).inside)
-
-pub overflow_shl-left : goal.overflow_shl-left
-overflow_shl-left c = omega (arith, (low c).inside)
-
-pub overflow_sub-left : goal.overflow_sub-left
-overflow_sub-left c = omega (arith, bit c, (low c).part)
-
-pub overflow_add-at : goal.overflow_add-at
-overflow_add-at c = omega (arith, (step c).inside)
-
-pub loop-left-smaller : goal.loop-left-smaller
-loop-left-smaller c = omega (arith, bit c, (low c).part, pow_pos (count_trailing_zeros 64 c.loop-left.left))
-
-pub loop-left-preserved : goal.loop-left-preserved
-loop-left-preserved c =
-    let s = step c in
-    (omega (arith, bit c, (low c).part), simp length-set c.loop-left.invariant.1, (c.loop-left.invariant.2.0 ++ ((c.args.base + count_trailing_zeros 64 c.loop-left.left) ∷ []), rw (bit c) s.parts, s.place, s.filled))
-
-pub returns : goal.returns
-returns c =
-    let v = c.loop-left.invariant.2 in
-    let z : c.loop-left.left ≡ 0 = omega arith in
-    let e : ids_of c.args.base (low_bits c.args.width c.args.word) ≡ v.0 =
-    v.1 ∙ ap (λ (n : ℕ). v.0 ++ ids_of c.args.base (low_bits c.args.width n)) z ∙ ap (λ (m : List ℕ). v.0 ++ m) (low_none c.args.width c.args.base) ∙ append-nil v.0
+pub loop-j-preserved : goal.loop-j-preserved
+loop-j-preserved c =
+    let a = c.args in
+    let front : List ℕ = take a.k a.out.now in
+    let ids : List ℕ = ids_of a.base (low_bits (4 * c.loop-j.j) a.word) in
+    let new : List ℕ = ids_of (a.base + 4 * c.loop-j.j) (low_bits 4 (a.word / 2 ^ (4 * c.loop-j.j) % 16)) in
+    let n = next a.word a.base c.loop-j.j in
+    let v = c.loop-j.invariant in
+    let long : length (front ++ ids) ≡ c.loop-j.at = length-append front ids ∙ omega (arith, length-take-le a.k a.out.now (omega arith), v.told) in
+    let told : Front ((front ++ ids) ++ new) a.count a.out.now c.fill_four-at.new.out =
+    front_more (front ++ ids) a.count a.out.now c.loop-j.out c.loop-j.at new c.fill_four-at.new.out long v.filled c.fill_four-at.ensures.filled
     in
-    (rw e v.2, rw e v.3)
+    record {
+      told = omega (arith, c.fill_four-at.ensures.told, v.told, ap length n, length-append ids new);
+      filled = subst (λ (l : List ℕ). Front l a.count a.out.now c.fill_four-at.new.out) (append_assoc front ids new ∙ ap (λ (l : List ℕ). front ++ l) (sym n)) told;
+    }
