@@ -1,4 +1,4 @@
-// A set as one bit for each id below the colour count, in chunks of at most 32 bits.
+// A set as one bit for each id below the colour count, in chunks of at most 64 bits.
 // `as` below: no `From` leads between u32 and usize, and no number is cut by it, which is proved.
 ghost use Rattle.std.specs.Prelude.{◌≡◌, ◌++◌, ◌+◌, ◌-◌, ◌*◌, ◌<◌, ◌≤◌, ◌^◌, min, length, get_or, take};
 ghost use Rattle.base.specs.Parts.{over};
@@ -23,7 +23,7 @@ pub(crate) struct MapChunk {
 
 // The bits for the `width` ids from `base` on, of which place `i` of the set is the first.
 pub(crate) fn map_chunk(set: ColorSet, i: usize, base: u32, width: u32) -> MapChunk
-    requires { Ahead set.colors.n set.ids.now (record { i = i; from = base }) × (width ≤ 32) × (base + width ≤ set.colors.n) }
+    requires { Ahead set.colors.n set.ids.now (record { i = i; from = base }) × (width ≤ 64) × (base + width ≤ set.colors.n) }
     ensures { MapOf set.entry.colors.n set.entry.ids.now i base width result }
 {
     let mut word: u64 = 0;
@@ -31,7 +31,7 @@ pub(crate) fn map_chunk(set: ColorSet, i: usize, base: u32, width: u32) -> MapCh
         if base + width <= id {
             return MapChunk { word, next: i + k };
         }
-        word += 1u64 << (id - base);
+        word |= 1u64 << (id - base);
     }
     MapChunk {
         word,
@@ -39,12 +39,24 @@ pub(crate) fn map_chunk(set: ColorSet, i: usize, base: u32, width: u32) -> MapCh
     }
 }
 
-// How many bits the chunk from `base` on has.
-pub(crate) fn chunk_width(base: u32, n: u32) -> u32
-    requires { base < n }
-    ensures { (result ≡ min 32 (n - base)) × (result ≤ 32) × (base + result ≤ n) × (0 < result) }
+// How many bits the chunk from `base` on has, where it is to have `most`.
+pub(crate) fn chunk_width(base: u32, n: u32, most: u32) -> u32
+    requires { (base < n) × (0 < most) }
+    ensures { (result ≡ min most (n - base)) × (result ≤ most) × (base + result ≤ n) × (0 < result) }
 {
-    (n - base).min(32)
+    (n - base).min(most)
+}
+
+// The low `width` bits of `word` behind the bits of `w`, which takes 32 at a time.
+fn push_word(w: &mut BitWriter, word: u64, width: u32)
+    requires ready { Ready w.old width }
+    requires word_bound { (word < 2 ^ width) × (width ≤ 64) }
+    ensures same_reference { w.new.out.ghost_name ≡ w.old.out.ghost_name }
+    ensures wrote { Wrote w.old w.new (low_bits width word) }
+{
+    let low = width.min(32);
+    w.push(word % (1u64 << low), low);
+    w.push(word >> low, width - low);
 }
 
 // The bitmap behind the bits of `w`. Its chunks come by three lines, here and in `same_map`: an iterator of them would
@@ -56,10 +68,10 @@ pub(crate) fn write_map(w: &mut BitWriter, set: ColorSet)
     ensures wrote { Wrote w.old w.new (map_bits 0 set.entry.colors.n set.entry.ids.now) }
 {
     let mut i: usize = 0;
-    for base in (0..set.colors.n).step_by(32) {
-        let width = chunk_width(base, set.colors.n);
+    for base in (0..set.colors.n).step_by(64) {
+        let width = chunk_width(base, set.colors.n, 64);
         let c = map_chunk(set, i, base, width);
-        w.push(c.word, width);
+        push_word(w, c.word, width);
         i = c.next;
     }
 }
@@ -74,7 +86,7 @@ pub(crate) fn same_map(source: Source, at: usize, set: ColorSet) -> Option<usize
     }
     let mut i: usize = 0;
     for base in (0..set.colors.n).step_by(32) {
-        let width = chunk_width(base, set.colors.n);
+        let width = chunk_width(base, set.colors.n, 32);
         let c = map_chunk(set, i, base, width);
         if crate::bits::bits_at(source.bytes, at + base as usize, width as usize) != c.word {
             return None;
@@ -170,7 +182,7 @@ impl Body<'_> {
         let n = self.colors.n;
         let mut count: usize = 0;
         for base in (0..n).step_by(32) {
-            let width = chunk_width(base, n) as usize;
+            let width = chunk_width(base, n, 32) as usize;
             let word = crate::bits::bits_at(self.source.bytes, self.at + base as usize, width);
             count += word.count_ones() as usize;
         }
@@ -187,7 +199,7 @@ impl Body<'_> {
         let n = self.colors.n;
         let mut k: usize = 0;
         for base in (0..n).step_by(32) {
-            let width = chunk_width(base, n) as usize;
+            let width = chunk_width(base, n, 32) as usize;
             let word = crate::bits::bits_at(self.source.bytes, self.at + base as usize, width);
             k = fill_chunk(word, base, self.count, out, k);
         }
