@@ -157,13 +157,29 @@ fn fill_four(four: u64, base: u32, count: usize, out: &mut [u32], k: usize) -> u
     fill_bits(four, base, out, k)
 }
 
-// The ids that the 32 bits of `word` tell, likewise.
+// The ids that the 32 bits of `word` tell, where 32 places are left.
+fn fill_rows(word: u64, base: u32, out: &mut [u32], k: usize) -> usize
+    requires { (base + 32 < 2 ^ 32) × (k + 32 ≤ length out.old) }
+    ensures told { result ≡ k + length (ids_of base (low_bits 32 word)) }
+    ensures filled { Front (take k out.old ++ ids_of base (low_bits 32 word)) (k + 32) out.old out.new }
+{
+    let mut at = k;
+    for j in 0..8u32 {
+        at = fill_row((word >> (4 * j)) % 16, base + 4 * j, out, at);
+    }
+    at
+}
+
+// The ids that the 32 bits of `word` tell, where places of `out` are left up to `count`.
 fn fill_chunk(word: u64, base: u32, count: usize, out: &mut [u32], k: usize) -> usize
     requires bounds { (base + 32 < 2 ^ 32) × (count ≤ length out.old) }
     requires space { k + length (ids_of base (low_bits 32 word)) ≤ count }
     ensures told { result ≡ k + length (ids_of base (low_bits 32 word)) }
     ensures filled { Front (take k out.old ++ ids_of base (low_bits 32 word)) count out.old out.new }
 {
+    if k + 32 <= count {
+        return fill_rows(word, base, out, k);
+    }
     let mut at = k;
     for j in 0..8u32 {
         at = fill_four((word >> (4 * j)) % 16, base + 4 * j, count, out, at);
