@@ -1,8 +1,8 @@
 // A set as one bit for each id below the colour count, in chunks of at most 64 bits.
 // `as` below: no `From` leads between u32 and usize, and no number is cut by it, which is proved.
-ghost use Rattle.std.specs.Prelude.{◌≡◌, ◌++◌, ◌+◌, ◌-◌, ◌*◌, ◌<◌, ◌≤◌, ◌^◌, min, length, get_or, take};
+ghost use Rattle.std.specs.Prelude.{◌≡◌, ◌++◌, ◌+◌, ◌-◌, ◌*◌, ◌<◌, ◌≤◌, ◌^◌, min, length, get_or, take, drop};
 ghost use Rattle.base.specs.Parts.{over};
-ghost use Rattle.codec.specs.Bits.{low_bits};
+ghost use Rattle.codec.specs.Bits.{low_bits, bits_of};
 ghost use Rattle.codec.specs.Sets.{map_bits, ids_of};
 ghost use Rattle.codec.specs.Inside.Writers.{Ready, Wrote};
 ghost use Rattle.codec.specs.Inside.Gaps.{Ahead, BitsAt};
@@ -187,22 +187,51 @@ fn fill_chunk(word: u64, base: u32, count: usize, out: &mut [u32], k: usize) -> 
     at
 }
 
+// How many ones the `n` bits from `at` on have. Their chunks come by three lines, here and in `fill_map`: an iterator of
+// them would be a struct of the source and `base` with its `next`, and a definition and laws of all its words together,
+// which is no plainer for two loops.
+fn ones_in(source: Source, at: usize, n: u32) -> usize
+    requires { at + n ≤ 8 * length source.bytes.now }
+    ensures { (result ≡ length (ids_of 0 (take n (drop at (bits_of source.entry.bytes.now))))) × (result ≤ n) }
+{
+    let mut count: usize = 0;
+    for base in (0..n).step_by(32) {
+        let width = chunk_width(base, n, 32) as usize;
+        let word = crate::bits::bits_at(source.bytes, at + base as usize, width);
+        count += word.count_ones() as usize;
+    }
+    count
+}
+
+// The same for `words` times 64 bits from byte `k` on.
+fn ones_in_words(source: Source, k: usize, words: usize) -> usize
+    requires { k + 8 * words ≤ length source.bytes.now }
+    ensures { (result ≡ length (ids_of 0 (take (64 * words) (drop (8 * k) (bits_of source.entry.bytes.now))))) × (result ≤ 64 * words) }
+{
+    let mut count: usize = 0;
+    for j in 0..words {
+        count += crate::bits::word_at(source.bytes, k + 8 * j).count_ones() as usize;
+    }
+    count
+}
+
 impl Body<'_> {
-    // How many ids a bitmap tells. Its chunks come by three lines, here and in `fill_map`: an iterator of them would be
-    // a struct of the body and `base` with its `next`, and a definition and laws of all its words together, which is no
-    // plainer for two loops.
+    // How many ids a bitmap tells: the bits up to a whole byte, whole words, and what is left.
     pub(crate) fn count_map(self) -> usize
         requires { self.at + self.colors.n ≤ 8 * length self.source.bytes.now }
         ensures { (result ≡ length (ids_of 0 (map_in self.entry))) × (result ≤ self.entry.colors.n) }
     {
         let n = self.colors.n;
-        let mut count: usize = 0;
-        for base in (0..n).step_by(32) {
-            let width = chunk_width(base, n, 32) as usize;
-            let word = crate::bits::bits_at(self.source.bytes, self.at + base as usize, width);
-            count += word.count_ones() as usize;
+        if n < 128 {
+            return ones_in(self.source, self.at, n);
         }
-        count
+        let head = 8 - self.at % 8;
+        let words = (n as usize - head) / 64;
+        let behind = head + 64 * words;
+        let whole = ones_in_words(self.source, (self.at + head) / 8, words);
+        ones_in(self.source, self.at, head as u32)
+            + whole
+            + ones_in(self.source, self.at + behind, n - behind as u32)
     }
 
     // The ids that a bitmap tells, to the front of `out`.

@@ -6,7 +6,7 @@ use mathlib.Core.List.{List, [], ◌∷◌, ◌++◌, append-nil}
 use native.Mathlib.Nat.{pow-suc, mul_assoc, zero-add, lt_of_not-le, not-le_of_lt, le_trans, div-eq_of_lt}
 use native.Mathlib.Omega.{arith}
 use lib.ListN.{length, take, drop, replicate, length-append, length-drop}
-use lib.Seq.{take-add, length-take-le}
+use lib.Seq.{take-add, drop-drop, length-take-le}
 use lib.Count.{ones, ones_step, count_trailing_zeros, under}
 use lib.Pow.{pow_pos, pow_mono}
 use Rattle.codec.specs.Bits.{low_bits, value_of}
@@ -55,6 +55,23 @@ module _ (bits : List Bool) (base width : ℕ) (fits : base + width ≤ length b
   chunk_low word e =
       let l : length (take width (drop base bits)) ≡ width = length-take-le width (drop base bits) (simp length-drop (omega arith)) in
       rw e (subst (λ (n : ℕ). low_bits n (value_of (take width (drop base bits))) ≡ take width (drop base bits)) l (low_value (take width (drop base bits))))
+
+-- ---- counted, from a place on
+
+module _ (bits : List Bool) (at : ℕ) where
+  -- those that a chunk adds
+  pub count_more : (base width word count : ℕ) → at + (base + width) ≤ length bits → word ≡ value_of (take width (drop (at + base) bits)) → count ≡ length (ids_of 0 (take base (drop at bits)))
+      → count + ones word ≡ length (ids_of 0 (take (base + width) (drop at bits)))
+  count_more base width word count h w e =
+      let d : take width (drop (at + base) bits) ≡ take width (drop base (drop at bits)) = ap (take width) (sym (drop-drop base at bits)) in
+      let n : length (ids_of base (take width (drop base (drop at bits)))) ≡ ones word = count_ids (take width (drop base (drop at bits))) base ∙ ap ones (ap value_of (sym d) ∙ sym w) in
+      rw (ids_chunk (drop at bits) base width (simp length-drop (omega arith)), length-append, n, e)
+
+  -- two parts together
+  pub count_parts : (m n : ℕ) → at + (m + n) ≤ length bits → length (ids_of 0 (take (m + n) (drop at bits))) ≡ length (ids_of 0 (take m (drop at bits))) + length (ids_of 0 (take n (drop (at + m) bits)))
+  count_parts m n h =
+      sym (count_more m n (value_of (take n (drop (at + m) bits))) (length (ids_of 0 (take m (drop at bits)))) h refl refl)
+      ∙ ap (λ (k : ℕ). length (ids_of 0 (take m (drop at bits))) + k) (sym (count_ids (take n (drop (at + m) bits)) 0))
 
 -- the ids of a part are no more than those of the whole
 pub ids_part : (bits : List Bool) (m n : ℕ) → m ≤ n → n ≤ length bits → length (ids_of 0 (take m bits)) ≤ length (ids_of 0 (take n bits))

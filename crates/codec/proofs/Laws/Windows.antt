@@ -150,7 +150,7 @@ pub tail_end : (all left : List ℕ) (v : ℕ) → Tail all left v → length le
 tail_end all [] v t e = rw t.parts (t.bits, t.small)
 tail_end all (b ∷ left) v t e = absurd (omega arith)
 
-drop_bits : (xs : List ℕ) (k : ℕ) → drop (8 * k) (bits_of xs) ≡ bits_of (drop k xs)
+pub drop_bits : (xs : List ℕ) (k : ℕ) → drop (8 * k) (bits_of xs) ≡ bits_of (drop k xs)
 unfolding bits_of
 drop_bits xs zero = refl
 drop_bits [] (suc k) = lib.Seq.drop-nil (8 * suc k)

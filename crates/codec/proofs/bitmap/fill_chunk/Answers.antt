@@ -1,7 +1,6 @@
-use Prim.Native.Nat.{◌+◌, ◌≤◌}
 use native.Mathlib.Omega.{arith}
 use Rattle.codec.proofs.Laws.Fronts.{front_wider}
-use Rattle.codec.proofs.Laws.Rows.{fours_start, fours_fit, fours_most, fours_next}
+use Rattle.codec.proofs.Laws.Rows.{fours_start, fours_fit, fours_next}
 use Rattle.codec.proofs.bitmap.fill_chunk.Goals as goal
 
 pub loop-j-init : goal.loop-j-init

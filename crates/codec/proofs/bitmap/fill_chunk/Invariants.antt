@@ -1,5 +1,4 @@
 -- `bitmap::fill_chunk` meets its contract. The loop's invariant: the ids of the first 4 * j bits are written.
-use Prim.Native.Nat.{◌+◌}
 use Rattle.codec.proofs.Laws.Rows.{Fours}
 use Rattle.codec.proofs.bitmap.fill_chunk.Given as goal
 
