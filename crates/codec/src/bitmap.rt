@@ -113,48 +113,18 @@ fn place_in(four: u64, j: usize) -> u32
     PLACES[4 * four as usize + j]
 }
 
-// The ids that four bits tell, from `base` on, to place `k` of `out` on: the place behind them. Four places are
-// written whatever the bits are, so that nothing branches on a bit.
-fn fill_row(four: u64, base: u32, out: &mut [u32], k: usize) -> usize
-    requires { (four < 16) × (base + 4 < 2 ^ 32) × (k + 4 ≤ length out.old) }
+// The ids that four bits tell, from `base` on, to place `k` of `out` on: the place behind them. So many places are
+// written whatever the bits are: nothing branches on a bit, and the next ids are written over what is too much.
+fn fill_row(four: u64, base: u32, places: usize, out: &mut [u32], k: usize) -> usize
+    requires bounds { (four < 16) × (base + 4 < 2 ^ 32) × (places ≤ 4) × (k + places ≤ length out.old) }
+    requires space { length (ids_of base (low_bits 4 four)) ≤ places }
     ensures told { result ≡ k + length (ids_of base (low_bits 4 four)) }
-    ensures filled { Front (take k out.old ++ ids_of base (low_bits 4 four)) (k + 4) out.old out.new }
+    ensures filled { Front (take k out.old ++ ids_of base (low_bits 4 four)) (k + places) out.old out.new }
 {
-    for j in 0..4 {
+    for j in 0..places {
         out[k + j] = base + place_in(four, j);
     }
     k + ONES[four as usize] as usize
-}
-
-// The same, where no more places are written than there are ids.
-fn fill_bits(four: u64, base: u32, out: &mut [u32], k: usize) -> usize
-    requires bounds { (four < 16) × (base + 4 < 2 ^ 32) }
-    requires space { k + length (ids_of base (low_bits 4 four)) ≤ length out.old }
-    ensures { (result ≡ k + length (ids_of base (low_bits 4 four))) × (out.new ≡ over (take k out.old ++ ids_of base (low_bits 4 four)) out.old) }
-{
-    let mut left = four;
-    let mut at = k;
-    // It goes over the bits that are left, and no range of them is known before.
-    while left != 0 {
-        let z = left.trailing_zeros();
-        out[at] = base + z;
-        left -= 1u64 << z;
-        at += 1;
-    }
-    at
-}
-
-// The ids that four bits tell, where places of `out` are left up to `count`.
-fn fill_four(four: u64, base: u32, count: usize, out: &mut [u32], k: usize) -> usize
-    requires bounds { (four < 16) × (base + 4 < 2 ^ 32) × (count ≤ length out.old) }
-    requires space { k + length (ids_of base (low_bits 4 four)) ≤ count }
-    ensures told { result ≡ k + length (ids_of base (low_bits 4 four)) }
-    ensures filled { Front (take k out.old ++ ids_of base (low_bits 4 four)) count out.old out.new }
-{
-    if k + 4 <= count {
-        return fill_row(four, base, out, k);
-    }
-    fill_bits(four, base, out, k)
 }
 
 // The ids that the 32 bits of `word` tell, where 32 places are left.
@@ -165,12 +135,12 @@ fn fill_rows(word: u64, base: u32, out: &mut [u32], k: usize) -> usize
 {
     let mut at = k;
     for j in 0..8u32 {
-        at = fill_row((word >> (4 * j)) % 16, base + 4 * j, out, at);
+        at = fill_row((word >> (4 * j)) % 16, base + 4 * j, 4, out, at);
     }
     at
 }
 
-// The ids that the 32 bits of `word` tell, where places of `out` are left up to `count`.
+// The ids that the 32 bits of `word` tell, where places are left up to `count`.
 fn fill_chunk(word: u64, base: u32, count: usize, out: &mut [u32], k: usize) -> usize
     requires bounds { (base + 32 < 2 ^ 32) × (count ≤ length out.old) }
     requires space { k + length (ids_of base (low_bits 32 word)) ≤ count }
@@ -182,7 +152,8 @@ fn fill_chunk(word: u64, base: u32, count: usize, out: &mut [u32], k: usize) -> 
     }
     let mut at = k;
     for j in 0..8u32 {
-        at = fill_four((word >> (4 * j)) % 16, base + 4 * j, count, out, at);
+        let places = (count - at).min(4);
+        at = fill_row((word >> (4 * j)) % 16, base + 4 * j, places, out, at);
     }
     at
 }

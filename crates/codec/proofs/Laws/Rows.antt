@@ -83,6 +83,9 @@ pub record Fours (word base count k : ℕ) (old : List ℕ) (j at : ℕ) (out : 
 abbrev pub next_ids : ℕ → ℕ → ℕ → List ℕ
 next_ids word base j = ids_of (base + 4 * j) (low_bits 4 (word / 2 ^ (4 * j) % 16))
 
+pub next_few : (word base j : ℕ) → length (next_ids word base j) ≤ 4
+next_few word base j = let four : ℕ = word / 2 ^ (4 * j) % 16 in omega (arith, ids_most (base + 4 * j) (low_bits 4 four), length_low 4 four)
+
 module _ (word base count k : ℕ) (old : List ℕ) (inside : k ≤ length old) where
   pub fours_start : Fours word base count k old 0 k old
   unfolding ids_of low_bits

@@ -1,4 +1,4 @@
-use Prim.Native.Nat.{ℕ, ◌+◌, ◌-◌, ◌≤◌, ◌<◌}
+use Prim.Native.Nat.{ℕ, ◌+◌, ◌-◌}
 use mathlib.Core.Path.{◌≡◌, sym, ap, ◌∙◌}
 use mathlib.Core.List.{List, [], ◌∷◌, ◌++◌, append_assoc}
 use native.Mathlib.Numerals.{add-one}
@@ -13,10 +13,6 @@ use Rattle.codec.proofs.Laws.Fronts.{front_over, front_part}
 use Rattle.codec.proofs.Laws.Rows.{row, row_more, row_ids, length_row, count_moved}
 use Rattle.codec.proofs.Laws.Tables.{count_is}
 use Rattle.codec.proofs.bitmap.fill_row.Goals as goal
-
--- no more ids than the row has places
-few : (four : ℕ) → four < 16 → length (ids_of 0 (low_bits 4 four)) ≤ 4
-few four h = let n = count_is four h in omega (arith, n.0, n.1)
 
 pub loop-j-init : goal.loop-j-init
 unfolding row
@@ -43,12 +39,12 @@ returns-clause-filled c =
     let old : List ℕ = a.out.now in
     let bits = low_bits 4 a.four in
     let ids : List ℕ = ids_of a.base bits in
-    let rest : List ℕ = row a.base [] (4 - length (ids_of 0 bits)) in
-    let four : c.loop-j.j ≡ 4 = omega arith in
-    let told : row a.base (ids_of 0 bits) c.loop-j.j ≡ ids ++ rest = ap (row a.base (ids_of 0 bits)) four ∙ row_ids a.base bits 4 (few a.four (omega arith)) in
+    let rest : List ℕ = row a.base [] (a.places - length (ids_of 0 bits)) in
+    let all_places : c.loop-j.j ≡ a.places = omega arith in
+    let told : row a.base (ids_of 0 bits) c.loop-j.j ≡ ids ++ rest = ap (row a.base (ids_of 0 bits)) all_places ∙ row_ids a.base bits a.places (omega (arith, c.requires.space, count_moved a.base bits)) in
     let all : List ℕ = (take a.k old ++ ids) ++ rest in
     let is : c.loop-j.out ≡ over all old = c.loop-j.invariant ∙ ap (λ (l : List ℕ). over (take a.k old ++ l) old) told ∙ ap (λ (l : List ℕ). over l old) (sym (append_assoc (take a.k old) ids rest)) in
-    let long : length all ≡ a.k + 4 =
+    let long : length all ≡ a.k + a.places =
     ap length (append_assoc (take a.k old) ids rest) ∙ length-append (take a.k old) (ids ++ rest) ∙ omega (arith, length-take-le a.k old (omega arith), ap length told, length_row a.base (ids_of 0 bits) c.loop-j.j)
     in
-    front_part (take a.k old ++ ids) (a.k + 4) old c.loop-j.out rest (rw is (front_over all old (a.k + 4) (omega (arith, long)) (omega arith)))
+    front_part (take a.k old ++ ids) (a.k + a.places) old c.loop-j.out rest (rw is (front_over all old (a.k + a.places) (omega (arith, long)) (omega arith)))

@@ -2,7 +2,7 @@ use Prim.Native.Nat.{◌+◌, ◌≤◌}
 use native.Mathlib.Omega.{arith}
 use lib.ListN.{length}
 use Rattle.codec.proofs.Laws.Fronts.{front_wider}
-use Rattle.codec.proofs.Laws.Rows.{fours_start, fours_most, fours_next}
+use Rattle.codec.proofs.Laws.Rows.{next_few, fours_start, fours_most, fours_next}
 use Rattle.codec.proofs.bitmap.fill_rows.Goals as goal
 
 pub loop-j-init : goal.loop-j-init
@@ -10,8 +10,9 @@ loop-j-init c = fours_start c.args.word c.args.base (c.args.k + 32) c.args.k c.a
 
 pub fill_row-at-requires : goal.fill_row-at-requires
 fill_row-at-requires c =
-    let most = fours_most c.args.word c.args.base (c.args.k + 32) c.args.k c.args.out.now (omega arith) c.loop-j.j c.loop-j.at c.loop-j.out c.loop-j.invariant in
-    (omega arith, omega arith, omega (arith, most))
+    let a = c.args in
+    let most = fours_most a.word a.base (a.k + 32) a.k a.out.now (omega arith) c.loop-j.j c.loop-j.at c.loop-j.out c.loop-j.invariant in
+    record { bounds = (omega arith, omega arith, omega arith, omega (arith, most)); space = next_few a.word a.base c.loop-j.j }
 
 pub loop-j-preserved : goal.loop-j-preserved
 loop-j-preserved c =
