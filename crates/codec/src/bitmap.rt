@@ -152,8 +152,12 @@ fn fill_chunk(word: u64, base: u32, count: usize, out: &mut [u32], k: usize) -> 
     }
     let mut at = k;
     for j in 0..8u32 {
-        let places = (count - at).min(4);
-        at = fill_row((word >> (4 * j)) % 16, base + 4 * j, places, out, at);
+        let four = (word >> (4 * j)) % 16;
+        at = if at + 4 <= count {
+            fill_row(four, base + 4 * j, 4, out, at)
+        } else {
+            fill_row(four, base + 4 * j, count - at, out, at)
+        };
     }
     at
 }
