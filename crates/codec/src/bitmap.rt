@@ -163,29 +163,29 @@ fn fill_chunk(word: u64, base: u32, count: usize, out: &mut [u32], k: usize) -> 
 }
 
 // How many ones the `n` bits from `at` on have. Their chunks come by three lines, here and in `fill_map`: an iterator of
-// them would be a struct of the source and `base` with its `next`, and a definition and laws of all its words together,
+// them would be a struct of the bytes and `base` with its `next`, and a definition and laws of all its words together,
 // which is no plainer for two loops.
-fn ones_in(source: Source, at: usize, n: u32) -> usize
-    requires { at + n ≤ 8 * length source.bytes.now }
-    ensures { (result ≡ length (ids_of 0 (take n (drop at (bits_of source.entry.bytes.now))))) × (result ≤ n) }
+fn ones_in(bytes: &[u8], at: usize, n: u32) -> usize
+    requires { (length bytes.now < 2 ^ 60) × (at + n ≤ 8 * length bytes.now) }
+    ensures { (result ≡ length (ids_of 0 (take n (drop at (bits_of bytes.now))))) × (result ≤ n) }
 {
     let mut count: usize = 0;
     for base in (0..n).step_by(32) {
         let width = chunk_width(base, n, 32) as usize;
-        let word = crate::bits::bits_at(source.bytes, at + base as usize, width);
+        let word = crate::bits::bits_at(bytes, at + base as usize, width);
         count += word.count_ones() as usize;
     }
     count
 }
 
 // The same for `words` times 64 bits from byte `k` on.
-fn ones_in_words(source: Source, k: usize, words: usize) -> usize
-    requires { k + 8 * words ≤ length source.bytes.now }
-    ensures { (result ≡ length (ids_of 0 (take (64 * words) (drop (8 * k) (bits_of source.entry.bytes.now))))) × (result ≤ 64 * words) }
+fn ones_in_words(bytes: &[u8], k: usize, words: usize) -> usize
+    requires { (length bytes.now < 2 ^ 60) × (k + 8 * words ≤ length bytes.now) }
+    ensures { (result ≡ length (ids_of 0 (take (64 * words) (drop (8 * k) (bits_of bytes.now))))) × (result ≤ 64 * words) }
 {
     let mut count: usize = 0;
     for j in 0..words {
-        count += crate::bits::word_at(source.bytes, k + 8 * j).count_ones() as usize;
+        count += crate::bits::word_at(bytes, k + 8 * j).count_ones() as usize;
     }
     count
 }
@@ -197,16 +197,17 @@ impl Body<'_> {
         ensures { (result ≡ length (ids_of 0 (map_in self.entry))) × (result ≤ self.entry.colors.n) }
     {
         let n = self.colors.n;
+        let bytes = self.source.bytes;
         if n < 128 {
-            return ones_in(self.source, self.at, n);
+            return ones_in(bytes, self.at, n);
         }
         let head = 8 - self.at % 8;
         let words = (n as usize - head) / 64;
         let behind = head + 64 * words;
-        let whole = ones_in_words(self.source, (self.at + head) / 8, words);
-        ones_in(self.source, self.at, head as u32)
+        let whole = ones_in_words(bytes, (self.at + head) / 8, words);
+        ones_in(bytes, self.at, head as u32)
             + whole
-            + ones_in(self.source, self.at + behind, n - behind as u32)
+            + ones_in(bytes, self.at + behind, n - behind as u32)
     }
 
     // The ids that a bitmap tells, to the front of `out`.

@@ -19,9 +19,9 @@ few : (c : goal.After-bits_at-word) → ones c.bits_at-word.result ≤ c.chunk_w
 few c = ones-le c.chunk_width-width.result c.bits_at-word.result c.bits_at-word.ensures.1
 
 -- with the ids of a turn
-turned : (c : goal.After-bits_at-word) → c.loop-base.count + ones c.bits_at-word.result ≡ length (ids_of 0 (take (c.loop-base.base + c.chunk_width-width.result) (drop c.args.at (bits_of c.args.source.bytes.now))))
+turned : (c : goal.After-bits_at-word) → c.loop-base.count + ones c.bits_at-word.result ≡ length (ids_of 0 (take (c.loop-base.base + c.chunk_width-width.result) (drop c.args.at (bits_of c.args.bytes.now))))
 turned c =
-    let bytes : List ℕ = c.args.source.bytes.now in
+    let bytes : List ℕ = c.args.bytes.now in
     count_more (bits_of bytes) c.args.at c.loop-base.base c.chunk_width-width.result _ _ (omega (arith, length_bits bytes)) c.bits_at-word.ensures.0 c.loop-base.invariant.2
 
 pub overflow_cast-count : goal.overflow_cast-count
@@ -40,10 +40,10 @@ loop-base-preserved c =
 pub returns : goal.returns
 returns c =
     let e : c.loop-base.base ≡ c.args.n = omega arith in
-    (c.loop-base.invariant.2 ∙ ap (λ (k : ℕ). length (ids_of 0 (take k (drop c.args.at (bits_of c.args.source.bytes.now))))) e, omega arith)
+    (c.loop-base.invariant.2 ∙ ap (λ (k : ℕ). length (ids_of 0 (take k (drop c.args.at (bits_of c.args.bytes.now))))) e, omega arith)
 
 pub returns-2 : goal.returns-2
 returns-2 c =
     let at = (goal.at.returns-2 c).After-bits_at-word in
     let e : c.loop-base.base + c.chunk_width-width.result ≡ c.args.n = omega arith in
-    (turned at ∙ ap (λ (k : ℕ). length (ids_of 0 (take k (drop c.args.at (bits_of c.args.source.bytes.now))))) e, omega (arith, few at))
+    (turned at ∙ ap (λ (k : ℕ). length (ids_of 0 (take k (drop c.args.at (bits_of c.args.bytes.now))))) e, omega (arith, few at))

@@ -7,7 +7,7 @@ use Rattle.codec.specs.Sets.{ids_of}
 use Rattle.codec.proofs.bitmap.ones_in.Given as goal
 
 abbrev pub invariant-loop-base : goal.invariant-loop-base
-invariant-loop-base l = (l.base ≤ l.n) × (l.count ≤ l.base) × (l.count ≡ length (ids_of 0 (take l.base (drop l.at (bits_of l.source.bytes.now)))))
+invariant-loop-base l = (l.base ≤ l.n) × (l.count ≤ l.base) × (l.count ≡ length (ids_of 0 (take l.base (drop l.at (bits_of l.bytes)))))
 
 abbrev pub decreases-loop-base : goal.decreases-loop-base
 decreases-loop-base l = l.n - l.base

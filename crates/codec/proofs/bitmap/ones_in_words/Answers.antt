@@ -28,7 +28,7 @@ read bytes k j w rest h e =
 pub loop-j-preserved : goal.loop-j-preserved
 loop-j-preserved c =
     let a = c.args in
-    let bytes : List ℕ = a.source.bytes.now in
+    let bytes : List ℕ = a.bytes.now in
     let w : ℕ = c.word_at.result in
     let v = c.loop-j.invariant in
     let few : ones w ≤ 64 = ones-le 64 w c.word_at.type_inv in
