@@ -19,6 +19,8 @@ pub mod Bitmaps
 pub mod Chunks
 pub mod Filled
 pub mod GapReader
+pub mod Fronts
+pub mod Rows
 pub mod Sizes
 pub mod Flat
 pub mod Encoded

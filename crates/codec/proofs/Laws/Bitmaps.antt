@@ -1,9 +1,9 @@
 -- The bitmap of a set in chunks.
-use Prim.Native.Nat.{ℕ, zero, suc, ◌+◌, ◌-◌, ◌*◌, ◌^◌, ◌≤◌, ◌<◌}
+use Prim.Native.Nat.{ℕ, zero, suc, ◌+◌, ◌-◌, ◌*◌, ◌%◌, ◌^◌, ◌≤◌, ◌<◌}
 use mathlib.Core.Path.{◌≡◌, refl, sym, ap, ap₂, ◌∙◌, subst}
 use mathlib.Core.Bool.{Bool, true, false}
 use mathlib.Core.List.{List, [], ◌∷◌, ◌++◌, append_assoc, append-nil}
-use native.Mathlib.Nat.{zero-add, suc-add, lt_of_lt_of_le, mod-eq_of_lt}
+use native.Mathlib.Nat.{add_comm, zero-add, suc-add, lt_of_lt_of_le, mod-eq_of_lt}
 use native.Mathlib.Numerals.{add-one}
 use native.Mathlib.Decide.{dec_lt}
 use native.Mathlib.Omega.{arith}
@@ -11,17 +11,22 @@ use lib.ListN.{length, take, drop, get_or, replicate, length-append, length-drop
 use lib.Seq.{drop-cons, take_at, drop_at, drop-drop, length-take-le}
 use lib.Pow.{pow_mono}
 use borrow.Author.Tests.{eq-eqb, ne_eqb}
+use Rattle.std.specs.Int.Bits.{bit_or, or_shifted_r}
 use Rattle.codec.specs.Bits.{low_bits, value_of}
 use Rattle.codec.specs.Sets.{Within, map_bits}
 use Rattle.codec.specs.Inside.Gaps.{Ahead}
 use Rattle.codec.specs.Inside.Bitmaps.{MapOf}
 use Rattle.codec.specs.declared.bitmap.MapChunk.{MapChunk}
 use Rattle.codec.proofs.Laws.Low.{length_low, low_join, low_value, value_low}
-use Rattle.codec.proofs.Laws.Bits.{joined_lt, low_more}
+use Rattle.codec.proofs.Laws.Bits.{joined_lt, low_more, shift_fits}
 use Rattle.codec.proofs.Laws.Sets.{length_map_bits}
 use Rattle.codec.proofs.Laws.Coded.{head_within}
 
 -- ---- zeros up to the next id, and a one
+
+-- a bit above those of a number, as the machine sets it
+pub or_above : (p n : ℕ) → p < 64 → n < 2 ^ p → bit_or n (1 * 2 ^ p % 2 ^ 64) ≡ n + 1 * 2 ^ p
+or_above p n h l = ap (bit_or n) (shift_fits p 1 1 (omega arith) (omega arith)) ∙ or_shifted_r 1 p n l ∙ add_comm (1 * 2 ^ p) n
 
 map_past : (n from N : ℕ) (xs : List ℕ) → Within (from + 1) N xs → map_bits from (suc n) xs ≡ false ∷ map_bits (from + 1) n xs
 unfolding map_bits
@@ -77,6 +82,10 @@ module _ (N : ℕ) (ids : List ℕ) (i base width : ℕ) where
     pub chunk_above : so.place ≤ get_or ids k 0
     chunk_above = (head_within ids N k so.place more so.left).0
 
+    -- its bit and those above it are not set yet
+    pub chunk_clear : word < 2 ^ (get_or ids k 0 - base)
+    chunk_clear = lt_of_lt_of_le so.small (pow_mono {i = so.place - base} {j = get_or ids k 0 - base} (omega (arith, chunk_above)))
+
     pub chunk_next : get_or ids k 0 < base + width → Chunked N ids i base width (word + 1 * 2 ^ (get_or ids k 0 - base)) (k + 1)
     chunk_next h =
         let id : ℕ = get_or ids k 0 in
@@ -84,7 +93,7 @@ module _ (N : ℕ) (ids : List ℕ) (i base width : ℕ) where
         let p : ℕ = so.place - base in
         let q : ℕ = id - so.place in
         let b : id - base ≡ p + q = omega (arith, w.0, so.low) in
-        let s : word < 2 ^ (id - base) = lt_of_lt_of_le so.small (pow_mono {i = p} {j = id - base} (omega arith)) in
+        let s : word < 2 ^ (id - base) = chunk_clear in
         let u : id + 1 - base ≡ id - base + 1 = omega (arith, w.0, so.low) in
         record {
           place = id + 1;

@@ -99,6 +99,3 @@ module _ (old out last front new : List ℕ) (k : ℕ) (long : length front ≡ 
 
   pub long_more : length (front ++ new) ≡ k + length new
   long_more = length-append front new ∙ ap (λ (n : ℕ). n + length new) long
-
-  pub same_more : k + length new ≤ length old → length last ≡ length old
-  same_more h = ap length over_more ∙ length_over (front ++ new) old (omega (arith, long_more))

@@ -1,16 +1,18 @@
 -- A rule of a table, proved at all of its entries by one test that is computed, one entry after the other.
-use mathlib.Core.Path.{◌≡◌, refl, ap, ◌∙◌, subst, sym}
+use mathlib.Core.Path.{◌≡◌, refl, ap, ap₂, ◌∙◌, subst, sym}
 use mathlib.Core.Bool.{Bool, true, false, cond, ◌&&◌, ◌||◌}
 use mathlib.Core.List.{List, [], ◌∷◌}
 use Prim.Native.Nat.{ℕ, zero, suc, ◌+◌, ◌-◌, ◌*◌, ◌/◌, ◌%◌, ◌^◌, ◌<◌}
 use native.Mathlib.Omega.{arith}
 use native.Mathlib.Nat.{add-zero, zero-add, add-suc, suc-add, le_of_suc-le-suc, not-suc-le-zero}
+use native.Mathlib.Omega.{arith}
 use lib.ListN.{length, get_or}
 use lib.Dec.{ltb, leb, eqb}
 use borrow.Author.Tests.{ltb-true, leb-true, eqb-true, ne_eqb}
 use Rattle.base.proofs.Bools.{and_true, false_true}
 use Rattle.codec.specs.Bits.{low_bits}
 use Rattle.codec.specs.Codes.{high_bit, high_in, gamma}
+use Rattle.codec.specs.Sets.{ids_of}
 use Rattle.codec.specs.Inside.Windows.{Head, IsEntry}
 use Rattle.codec.specs.Inside.Writers.{ShortOf}
 use Rattle.codec.proofs.Laws.Low.{low_below}
@@ -137,3 +139,33 @@ code_is w e is h =
     let k : ℕ = e / 64 % 64 in
     let nine : 9 ≡ (9 - k) + k = omega (arith, head.short) in
     record { b = head.b; few = head.few; short = head.short; count = head.count; mask = head.mask; code = sym (low_below (9 - k) k w) ∙ ap (λ (i : ℕ). low_bits k (w % 2 ^ i)) (sym nine) ∙ head.code }
+
+-- ---- the table of ones among four bits
+
+abbrev pub places : List ℕ
+places = 0 ∷ 0 ∷ 0 ∷ 0 ∷ 0 ∷ 0 ∷ 0 ∷ 0 ∷ 1 ∷ 0 ∷ 0 ∷ 0 ∷ 0 ∷ 1 ∷ 0 ∷ 0 ∷ 2 ∷ 0 ∷ 0 ∷ 0 ∷ 0 ∷ 2 ∷ 0 ∷ 0 ∷ 1 ∷ 2 ∷ 0 ∷ 0 ∷ 0 ∷ 1 ∷ 2 ∷ 0
+    ∷ 3 ∷ 0 ∷ 0 ∷ 0 ∷ 0 ∷ 3 ∷ 0 ∷ 0 ∷ 1 ∷ 3 ∷ 0 ∷ 0 ∷ 0 ∷ 1 ∷ 3 ∷ 0 ∷ 2 ∷ 3 ∷ 0 ∷ 0 ∷ 0 ∷ 2 ∷ 3 ∷ 0 ∷ 1 ∷ 2 ∷ 3 ∷ 0 ∷ 0 ∷ 1 ∷ 2 ∷ 3 ∷ []
+
+abbrev pub counts : List ℕ
+counts = 0 ∷ 1 ∷ 1 ∷ 2 ∷ 1 ∷ 2 ∷ 2 ∷ 3 ∷ 1 ∷ 2 ∷ 2 ∷ 3 ∷ 2 ∷ 3 ∷ 3 ∷ 4 ∷ []
+
+unfoldable place_of : ℕ → ℕ → Bool
+place_of k x = eqb x (get_or (ids_of 0 (low_bits 4 (k / 4))) (k % 4) 0) && ltb x 4
+
+pub place_is : (four j : ℕ) → four < 16 → j < 4 → (get_or places (4 * four + j) 0 ≡ get_or (ids_of 0 (low_bits 4 four)) j 0) × (get_or places (4 * four + j) 0 < 4)
+unfolding place_of ids_of low_bits
+place_is four j h l =
+    let k : ℕ = 4 * four + j in
+    let q : k / 4 ≡ four = omega arith in
+    let r : k % 4 ≡ j = omega arith in
+    let t = and_true (eqb (get_or places k 0) (get_or (ids_of 0 (low_bits 4 (k / 4))) (k % 4) 0)) (ltb (get_or places k 0) 4) (at place_of places refl k (omega arith)) in
+    (eqb-true (get_or places k 0) (get_or (ids_of 0 (low_bits 4 (k / 4))) (k % 4) 0) t.0 ∙ ap₂ (λ (a b : ℕ). get_or (ids_of 0 (low_bits 4 a)) b 0) q r, ltb-true (get_or places k 0) 4 t.1)
+
+unfoldable count_of : ℕ → ℕ → Bool
+count_of k x = eqb x (length (ids_of 0 (low_bits 4 k))) && ltb x 5
+
+pub count_is : (four : ℕ) → four < 16 → (get_or counts four 0 ≡ length (ids_of 0 (low_bits 4 four))) × (get_or counts four 0 < 5)
+unfolding count_of ids_of low_bits
+count_is four h =
+    let t = and_true (eqb (get_or counts four 0) (length (ids_of 0 (low_bits 4 four)))) (ltb (get_or counts four 0) 5) (at count_of counts refl four h) in
+    (eqb-true (get_or counts four 0) (length (ids_of 0 (low_bits 4 four))) t.0, ltb-true (get_or counts four 0) 5 t.1)

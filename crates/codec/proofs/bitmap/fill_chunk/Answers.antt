@@ -1,87 +1,39 @@
-use Prim.Native.Nat.{ℕ, suc, ◌*◌, ◌%◌, ◌≤◌, ◌-◌, ◌<◌, ◌+◌, ◌^◌}
-use mathlib.Core.Path.{◌≡◌, refl, sym, ap, ◌∙◌}
-use mathlib.Core.List.{List, [], ◌++◌, ◌∷◌, append_assoc, append-nil}
+use Prim.Native.Nat.{◌+◌, ◌≤◌}
 use native.Mathlib.Omega.{arith}
-use lib.ListN.{length, take, set, length-set, length-append}
-use lib.Pow.{pow_pos}
-use lib.Count.{count_trailing_zeros}
-use Rattle.base.specs.Parts.{over}
-use Rattle.codec.specs.Bits.{low_bits}
-use Rattle.codec.specs.Sets.{ids_of}
-use Rattle.codec.proofs.Laws.Filled.{over_start, over_next}
-use Rattle.codec.proofs.Laws.Low.{one_shl}
-use Rattle.codec.proofs.Laws.Chunks.{Lowest, lowest, low_none}
+use lib.ListN.{length}
+use Rattle.codec.proofs.Laws.Fronts.{front_wider}
+use Rattle.codec.proofs.Laws.Rows.{next_ids, next_few, fours_start, fours_fit, fours_next}
 use Rattle.codec.proofs.bitmap.fill_chunk.Goals as goal
+use Rattle.codec.proofs.bitmap.fill_chunk.Goals.{In-loop-j, then-at-count, else-at-count}
 
--- one id more
-record More (ids ys left : List ℕ) (k at x : ℕ) (out old : List ℕ) : Type 0 where
-  pub parts : ids ≡ ys ++ (x ∷ []) ++ left
-  pub place : at + 1 ≡ k + length (ys ++ (x ∷ []))
-  pub filled : set out at x ≡ over (take k old ++ (ys ++ (x ∷ []))) old
-  pub inside : at < length old
+pub loop-j-init : goal.loop-j-init
+loop-j-init c = fours_start c.args.word c.args.base c.args.count c.args.k c.args.out.now (omega arith)
 
-more : (ids ys left : List ℕ) (k at x : ℕ) (out old : List ℕ) → ids ≡ ys ++ x ∷ left → at ≡ k + length ys → k + length ids ≤ length old → out ≡ over (take k old ++ ys) old → More ids ys left k at x out old
-more ids ys left k at x out old i a r e =
-    let n : length ids ≡ length ys + suc (length left) = ap length i ∙ length-append ys (x ∷ left) in
-    record {
-      parts = i ∙ sym (append_assoc ys (x ∷ []) left);
-      place = omega (arith, length-append ys (x ∷ []));
-      filled = over_next old k (omega arith) out ys at x a (omega arith) e;
-      inside = omega arith;
-    }
+-- the next ids have place
+fit : (c : In-loop-j) → c.loop-j.at + length (next_ids c.args.word c.args.base c.loop-j.j) ≤ c.args.count
+fit c =
+    omega (arith, fours_fit c.args.word c.args.base c.args.count c.args.k c.args.out.now (omega arith) c.loop-j.j c.loop-j.at c.loop-j.out c.loop-j.invariant (omega arith), c.requires.space)
 
--- the bit that a turn takes
-low : (c : goal.In-loop-left) → Lowest c.loop-left.left (count_trailing_zeros 64 c.loop-left.left) c.args.width c.args.base
-low c = lowest c.loop-left.left (count_trailing_zeros 64 c.loop-left.left) c.args.width c.args.base (omega arith) c.loop-left.invariant.0 (omega arith) refl
+pub overflow_sub-count : goal.overflow_sub-count
+overflow_sub-count c = omega (arith, fit (goal.at.overflow_sub-count c).In-loop-j)
 
-bit : (c : goal.In-loop-left) → 1 * 2 ^ count_trailing_zeros 64 c.loop-left.left % 2 ^ 64 ≡ 2 ^ count_trailing_zeros 64 c.loop-left.left
-bit c = one_shl (count_trailing_zeros 64 c.loop-left.left) (omega (arith, (low c).inside))
+pub fill_row-at-requires-clause-space : goal.fill_row-at-requires-clause-space
+fill_row-at-requires-clause-space c = next_few c.args.word c.args.base c.loop-j.j
 
-pub loop-left-init : goal.loop-left-init
-loop-left-init c = (omega arith, refl, ([], refl, omega arith, over_start c.args.out.now c.args.k (omega arith)))
+pub fill_row-at-requires-else-at-count-clause-space : goal.fill_row-at-requires-else-at-count-clause-space
+fill_row-at-requires-else-at-count-clause-space c = omega (arith, fit (goal.at.fill_row-at-requires-else-at-count-clause-space c).In-loop-j)
 
-step : (c : goal.In-loop-left)
-    → More (ids_of c.args.base (low_bits c.args.width c.args.word)) c.loop-left.invariant.2.0
-    (ids_of c.args.base (low_bits c.args.width (c.loop-left.left - 2 ^ count_trailing_zeros 64 c.loop-left.left))) c.args.k c.loop-left.at
-    (c.args.base + count_trailing_zeros 64 c.loop-left.left) c.loop-left.out c.args.out.now
-step c =
-    let v = c.loop-left.invariant.2 in
-    more _ v.0 _ c.args.k c.loop-left.at _ c.loop-left.out c.args.out.now (v.1 ∙ ap (λ (m : List ℕ). v.0 ++ m) (low c).ids) v.2 c.requires.word_in_bounds v.3
+pub loop-j-preserved : goal.loop-j-preserved
+loop-j-preserved c =
+    let a = c.args in
+    let next = fours_next a.word a.base a.count a.k a.out.now (omega arith) c.loop-j.j c.loop-j.at c.loop-j.out c.loop-j.invariant in
+    elim c.if-at-count.branch [
+      | then-at-count w ↦ rw (w.at-is, w.out-is) (next w.fill_row-at.result w.fill_row-at.new.out w.fill_row-at.ensures.told (front_wider _ _ _ _ a.count w.if-at-count.true w.fill_row-at.ensures.filled))
+      | else-at-count w ↦
+          let most = fit (goal.at.loop-j-preserved c).In-loop-j in
+          rw (w.at-is, w.out-is)
+          (next w.fill_row-at-else-at-count.result w.fill_row-at-else-at-count.new.out w.fill_row-at-else-at-count.ensures.told (front_wider _ _ _ _ a.count (omega (arith, most)) w.fill_row-at-else-at-count.ensures.filled))
+    ]
 
-pub overflow_add-out : goal.overflow_add-out
-overflow_add-out c = omega (arith, (low c).inside)
-
-pub offset_bounds-out-at : goal.offset_bounds-out-at
-offset_bounds-out-at c = omega (arith, (step c).inside)
-
-pub bounds-out-at : goal.bounds-out-at
-bounds-out-at c = omega (arith, (step c).inside)
-
-pub overflow_cast-left : goal.overflow_cast-left
-overflow_cast-left c = omega (arith, (low c).inside)
-
-pub overflow_shl-left : goal.overflow_shl-left
-overflow_shl-left c = omega (arith, (low c).inside)
-
-pub overflow_sub-left : goal.overflow_sub-left
-overflow_sub-left c = omega (arith, bit c, (low c).part)
-
-pub overflow_add-at : goal.overflow_add-at
-overflow_add-at c = omega (arith, (step c).inside)
-
-pub loop-left-smaller : goal.loop-left-smaller
-loop-left-smaller c = omega (arith, bit c, (low c).part, pow_pos (count_trailing_zeros 64 c.loop-left.left))
-
-pub loop-left-preserved : goal.loop-left-preserved
-loop-left-preserved c =
-    let s = step c in
-    (omega (arith, bit c, (low c).part), simp length-set c.loop-left.invariant.1, (c.loop-left.invariant.2.0 ++ ((c.args.base + count_trailing_zeros 64 c.loop-left.left) ∷ []), rw (bit c) s.parts, s.place, s.filled))
-
-pub returns : goal.returns
-returns c =
-    let v = c.loop-left.invariant.2 in
-    let z : c.loop-left.left ≡ 0 = omega arith in
-    let e : ids_of c.args.base (low_bits c.args.width c.args.word) ≡ v.0 =
-    v.1 ∙ ap (λ (n : ℕ). v.0 ++ ids_of c.args.base (low_bits c.args.width n)) z ∙ ap (λ (m : List ℕ). v.0 ++ m) (low_none c.args.width c.args.base) ∙ append-nil v.0
-    in
-    (rw e v.2, rw e v.3)
+pub returns-then-k-count-clause-filled : goal.returns-then-k-count-clause-filled
+returns-then-k-count-clause-filled c = front_wider _ _ _ _ c.args.count (omega arith) c.fill_rows.ensures.filled

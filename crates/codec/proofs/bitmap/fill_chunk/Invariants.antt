@@ -1,16 +1,6 @@
--- `bitmap::fill_chunk` meets its contract.
-use Prim.Native.Nat.{ℕ, ◌<◌, ◌+◌, ◌^◌}
-use mathlib.Core.Path.{◌≡◌}
-use mathlib.Core.List.{List, ◌++◌}
-use lib.ListN.{length, take}
-use Rattle.base.specs.Parts.{over}
-use Rattle.codec.specs.Bits.{low_bits}
-use Rattle.codec.specs.Sets.{ids_of}
+-- `bitmap::fill_chunk` meets its contract. The loop's invariant: the ids of the first 4 * j bits are written.
+use Rattle.codec.proofs.Laws.Rows.{Fours}
 use Rattle.codec.proofs.bitmap.fill_chunk.Given as goal
 
-abbrev pub invariant-loop-left : goal.invariant-loop-left
-invariant-loop-left l = (l.left < 2 ^ l.width) × (length l.out ≡ length l.initial.out)
-    × ((ys : List ℕ) × (ids_of l.base (low_bits l.width l.word) ≡ ys ++ ids_of l.base (low_bits l.width l.left)) × (l.at ≡ l.k + length ys) × (l.out ≡ over (take l.k l.initial.out ++ ys) l.initial.out))
-
-abbrev pub decreases-loop-left : goal.decreases-loop-left
-decreases-loop-left l = l.left
+abbrev pub invariant-loop-j : goal.invariant-loop-j
+invariant-loop-j l = Fours l.word l.base l.count l.k l.initial.out l.j l.at l.out

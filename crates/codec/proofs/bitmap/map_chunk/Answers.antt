@@ -1,15 +1,13 @@
 use Prim.Native.Nat.{ℕ, ◌+◌, ◌-◌, ◌*◌, ◌%◌, ◌^◌, ◌≤◌, ◌<◌}
-use native.Mathlib.Nat.{lt_of_lt_of_le}
 use native.Mathlib.Omega.{arith}
 use mathlib.Core.Path.{◌≡◌, ap, ◌∙◌, subst}
 use mathlib.Core.List.{List}
 use lib.ListN.{length, take, drop, get_or, length-drop}
 use lib.Seq.{get_or-drop}
-use lib.Pow.{pow_mono}
+use Rattle.std.specs.Int.Bits.{bit_or}
 use Rattle.base.proofs.Parts.{tail_is}
 use Rattle.codec.specs.Inside.Bitmaps.{MapOf}
-use Rattle.codec.proofs.Laws.Bits.{shift_fits}
-use Rattle.codec.proofs.Laws.Bitmaps.{Chunked, chunk_start, chunk_above, chunk_next, chunk_end}
+use Rattle.codec.proofs.Laws.Bitmaps.{or_above, Chunked, chunk_start, chunk_above, chunk_clear, chunk_next, chunk_end}
 use Rattle.codec.proofs.bitmap.map_chunk.Goals as goal
 use Rattle.codec.proofs.bitmap.map_chunk.Goals.{Else-base-width}
 
@@ -44,14 +42,15 @@ above c =
 
 next : (c : Else-base-width)
     → Chunked c.args.set.colors.n c.args.set.ids.now c.args.i c.args.base c.args.width
-    (c.loop-k.word + 1 * 2 ^ (get_or (from_place c.args.set.ids.now c.args.i) c.loop-k.k 0 - c.args.base) % 2 ^ 64) (c.args.i + (c.loop-k.k + 1))
+    (bit_or c.loop-k.word (1 * 2 ^ (get_or (from_place c.args.set.ids.now c.args.i) c.loop-k.k 0 - c.args.base) % 2 ^ 64)) (c.args.i + (c.loop-k.k + 1))
 next c =
     let a = c.args in
     let ids = a.set.ids.now in
     let k = a.i + c.loop-k.k in
     let n : k + 1 ≡ a.i + (c.loop-k.k + 1) = omega arith in
     let here : get_or ids k 0 < a.base + a.width = omega (arith, c.if-base-width.false, id_at ids a.i c.loop-k.k) in
-    rw (shift_fits (get_or (from_place ids a.i) c.loop-k.k 0 - a.base) 1 1 (omega arith) (omega (arith, above c)), id_at ids a.i c.loop-k.k, ← n)
+    let clear : c.loop-k.word < 2 ^ (get_or ids k 0 - a.base) = chunk_clear a.set.colors.n ids a.i a.base a.width c.loop-k.word k c.loop-k.invariant (inside c) in
+    rw (id_at ids a.i c.loop-k.k, or_above (get_or ids k 0 - a.base) c.loop-k.word (omega (arith, chunk_above a.set.colors.n ids a.i a.base a.width c.loop-k.word k c.loop-k.invariant (inside c))) clear, ← n)
     (chunk_next a.set.colors.n ids a.i a.base a.width c.loop-k.word k c.loop-k.invariant (inside c) here)
 
 pub overflow_sub-word : goal.overflow_sub-word
@@ -62,11 +61,6 @@ overflow_cast-word c = omega (arith, above (goal.at.overflow_cast-word c).Else-b
 
 pub overflow_shl-word : goal.overflow_shl-word
 overflow_shl-word c = omega (arith, above (goal.at.overflow_shl-word c).Else-base-width)
-
-pub overflow_add-word : goal.overflow_add-word
-overflow_add-word c =
-    let more = next (goal.at.overflow_add-word c).Else-base-width in
-    record { fits = lt_of_lt_of_le more.small (pow_mono {j = 64} (omega (arith, more.low, more.high))) }
 
 pub loop-k-preserved : goal.loop-k-preserved
 loop-k-preserved c = next (goal.at.loop-k-preserved c).Else-base-width

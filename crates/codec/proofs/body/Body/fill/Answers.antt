@@ -27,7 +27,7 @@ fill_map-requires c =
     let b = payload_body s p _ Bitmap c.in-Bitmap.is c.kind_of.ensures in
     let bytes : List ℕ = s.source.bytes.now in
     let m = map_told s.colors.n s.count (bits_in s) _ _ b.1 in
-    record { place = omega (arith, m.0, length-drop s.at (bits_of bytes), length_bits bytes, s.place); space = omega (arith, c.requires.space, ap length m.1, p.count) }
+    record { place = omega (arith, m.0, length-drop s.at (bits_of bytes), length_bits bytes, s.place); counted = ap length m.1 ∙ sym p.count; space = c.requires.space }
 
 pub overflow_sub-self : goal.overflow_sub-self
 overflow_sub-self c =
