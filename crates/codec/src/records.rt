@@ -5,10 +5,12 @@ ghost use Rattle.base.specs.Answers.{of_written, of_given};
 ghost use Rattle.base.specs.Parts.{over};
 ghost use Rattle.codec.specs.Records.{bad_colors, record_of, write_record, record_length, read_into, is_record};
 ghost use Rattle.codec.specs.Sets.{encode_set, decode_set};
+ghost use Rattle.codec.specs.Inside.Gaps.{AbsentIn};
 ghost use Rattle.codec.specs.Inside.Payloads.{put_set};
 
 use crate::colors::{ColorSet, Colors};
 use crate::prefix::Prefix;
+use crate::sets::Kind;
 use crate::source::Source;
 use base::{Given, Refusal};
 
@@ -25,15 +27,16 @@ pub fn color_record_len(n: u32, ids: &[u32]) -> Result<usize, Refusal>
     ensures { of_written result ≡ record_length n ids.now }
 {
     let set = ColorSet::new(n, ids)?;
-    let len = payload_len(set);
+    let len = payload_len(set, None);
     Ok(crate::prefix::varint_len(len) + len as usize)
 }
 
-// How many bytes the payload of a set has.
-fn payload_len(set: ColorSet) -> u32
+// How many bytes the payload of a set has. The ids absent from it are in `list`, where there is one.
+fn payload_len(set: ColorSet, list: Option<ColorSet>) -> u32
+    requires { AbsentIn set.colors.n set.ids.now list }
     ensures { result ≡ length (encode_set set.entry.colors.n set.entry.ids.now) }
 {
-    crate::sets::set_len(set).div_ceil(8) as u32
+    crate::sets::set_len(set, list).div_ceil(8) as u32
 }
 
 // Whether any record of sets of `n` colours fits in `room` bytes with a prefix of one byte.
@@ -49,7 +52,7 @@ fn write_short(set: ColorSet, out: &mut [u8]) -> usize
     requires { (set.colors.n < 136) × (128 ≤ length out.old) }
     ensures { (result ≡ length (record_of set.entry.colors.n set.entry.ids.now)) × (result ≤ 128) × (out.new ≡ over (record_of set.entry.colors.n set.entry.ids.now) out.old) }
 {
-    let len = crate::sets::encode_source_set(&mut out[1..], set);
+    let len = crate::sets::encode_source_set(&mut out[1..], set, None);
     out[0] = len as u8;
     len + 1
 }
@@ -62,14 +65,69 @@ pub fn write_color_record(n: u32, ids: &[u32], out: &mut [u8]) -> Result<usize, 
     if is_short(n, out.len()) {
         return Ok(write_short(set, out));
     }
-    let len = payload_len(set);
+    match crate::sets::kind_of(n, ids.len()) {
+        Kind::Dense => write_dense(set, out),
+        _ => write_long(set, None, out),
+    }
+}
+
+// The record of a dense set to the front of `out`. The ids absent from it are listed first, where they are not too many,
+// so that they are found once. Few are given little room, as it is cleared first.
+fn write_dense(set: ColorSet, out: &mut [u8]) -> Result<usize, Refusal>
+    ensures { (of_written result, out.new) ≡ write_record set.entry.colors.n set.entry.ids.now out.old }
+{
+    let space = set.colors.n as usize - set.ids.len() + 4;
+    if space <= 64 {
+        let mut room = [0u32; 64];
+        return write_listed(set, &mut room, out);
+    }
+    if space <= 1024 {
+        let mut room = [0u32; 1024];
+        return write_listed(set, &mut room, out);
+    }
+    if space <= 16384 {
+        return write_many_listed(set, out);
+    }
+    write_long(set, None, out)
+}
+
+// The same, with room for more ids. It stands alone in the machine code, as `read_long_payload` does.
+#[inline(never)]
+fn write_many_listed(set: ColorSet, out: &mut [u8]) -> Result<usize, Refusal>
+    requires { set.colors.n + 4 ≤ length set.ids.now + 16384 }
+    ensures { (of_written result, out.new) ≡ write_record set.entry.colors.n set.entry.ids.now out.old }
+{
+    let mut room = [0u32; 16384];
+    write_listed(set, &mut room, out)
+}
+
+// The same, with the absent ids listed in `room`.
+fn write_listed(set: ColorSet, room: &mut [u32], out: &mut [u8]) -> Result<usize, Refusal>
+    requires { set.colors.n + 4 ≤ length set.ids.now + length room.old }
+    ensures { (of_written result, out.new) ≡ write_record set.entry.colors.n set.entry.ids.now out.old }
+{
+    crate::absent::list_absent(set, room);
+    let count = set.colors.n as usize - set.ids.len();
+    let list = ColorSet {
+        colors: set.colors,
+        ids: &room[..count],
+    };
+    write_long(set, Some(list), out)
+}
+
+// The record of a set to the front of `out`. The ids absent from it are in `list`, where there is one.
+fn write_long(set: ColorSet, list: Option<ColorSet>, out: &mut [u8]) -> Result<usize, Refusal>
+    requires { AbsentIn set.colors.n set.ids.now list }
+    ensures { (of_written result, out.new) ≡ write_record set.entry.colors.n set.entry.ids.now out.old }
+{
+    let len = payload_len(set, list);
     let at = crate::prefix::varint_len(len);
     let total = at + len as usize;
     if out.len() < total {
         return Err(Refusal::Space);
     }
     crate::prefix::fill_varint(len, out);
-    crate::sets::encode_source_set(&mut out[at..], set);
+    crate::sets::encode_source_set(&mut out[at..], set, list);
     Ok(total)
 }
 

@@ -1,6 +1,6 @@
 -- `records::write_color_record` meets its contract.
-use Prim.Native.Nat.{ℕ, ◌+◌, ◌≤◌, ◌<◌}
-use mathlib.Core.Path.{◌≡◌, sym, ap, ap₂, ◌∙◌}
+use Prim.Native.Nat.{ℕ, ◌≤◌, ◌<◌}
+use mathlib.Core.Path.{◌≡◌, sym, ap₂, ◌∙◌}
 use mathlib.Core.Bool.{true, ◌&&◌}
 use mathlib.Core.List.{List, [], ◌∷◌}
 use native.Mathlib.Omega.{arith}
@@ -10,9 +10,7 @@ use borrow.Author.Tests.{ltb-true, leb-true}
 use Rattle.codec.proofs.Laws.Refusals.{passed_on}
 use Rattle.base.specs.Answers.{done}
 use Rattle.base.proofs.Bools.{and_true}
-use Rattle.codec.specs.Records.{record_of}
-use Rattle.codec.proofs.Laws.Colors.{turned_write, taken_short, taken_write}
-use Rattle.codec.proofs.Laws.Encoded.{record_length_lem, record_room, record_put}
+use Rattle.codec.proofs.Laws.Colors.{turned_write, taken_write}
 use Rattle.codec.proofs.records.write_color_record.Goals as goal
 
 -- what the test for a short record told
@@ -35,24 +33,3 @@ returns-then-is_short c =
     rw (← c.in_ok-set.ensures.taken.0, ← c.in_ok-set.ensures.taken.1)
     (ap₂ (λ (n : ℕ) (x : List ℕ). (done (n ∷ []), x)) c.write_short.ensures.0 c.write_short.ensures.2
     ∙ sym (taken_write s.colors.n s.ids.now s.colors.some s.colors.few s.within c.args.out.now (omega (arith, c.write_short.ensures.0, c.write_short.ensures.1, t.1))))
-
-pub returns-then-out-total : goal.returns-then-out-total
-returns-then-out-total c =
-    let s = c.in_ok-set.set in
-    let len = c.payload_len-len.result in
-    let total : c.varint_len-at.result + len ≡ length (record_of s.colors.n s.ids.now) = ap (λ (n : ℕ). n + len) c.varint_len-at.ensures.0 ∙ record_length_lem s.colors.n s.ids.now len c.payload_len-len.ensures in
-    rw (← c.in_ok-set.ensures.taken.0, ← c.in_ok-set.ensures.taken.1) (sym (taken_short s.colors.n s.ids.now s.colors.some s.colors.few s.within c.args.out.now (omega (arith, total))))
-
-pub encode_source_set-requires : goal.encode_source_set-requires
-encode_source_set-requires c =
-    let s = c.in_ok-set.set in
-    record_room s.colors.n c.payload_len-len.result c.varint_len-at.result s.ids.now c.args.out.now c.fill_varint.new.out c.payload_len-len.ensures c.varint_len-at.ensures.0 c.fill_varint.ensures c.if-out-total.false
-
-pub returns : goal.returns
-returns c =
-    let s = c.in_ok-set.set in
-    let len = c.payload_len-len.result in
-    let total : c.varint_len-at.result + len ≡ length (record_of s.colors.n s.ids.now) = ap (λ (n : ℕ). n + len) c.varint_len-at.ensures.0 ∙ record_length_lem s.colors.n s.ids.now len c.payload_len-len.ensures in
-    let put = record_put s.colors.n len c.varint_len-at.result s.ids.now c.args.out.now c.fill_varint.new.out c.payload_len-len.ensures c.varint_len-at.ensures.0 c.fill_varint.ensures c.encode_source_set.new.out c.encode_source_set.ensures.1 in
-    rw (← c.in_ok-set.ensures.taken.0, ← c.in_ok-set.ensures.taken.1)
-    (ap₂ (λ (n : ℕ) (x : List ℕ). (done (n ∷ []), x)) total put ∙ sym (taken_write s.colors.n s.ids.now s.colors.some s.colors.few s.within c.args.out.now (omega (arith, total))))

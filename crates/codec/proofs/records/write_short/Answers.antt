@@ -7,8 +7,8 @@ use Rattle.base.proofs.Parts.{tail_is}
 use Rattle.codec.proofs.Laws.Encoded.{short_room, short_length, short_put}
 use Rattle.codec.proofs.records.write_short.Goals as goal
 
-pub encode_source_set-len-requires : goal.encode_source_set-len-requires
-encode_source_set-len-requires c =
+pub encode_source_set-len-requires-clause-space : goal.encode_source_set-len-requires-clause-space
+encode_source_set-len-requires-clause-space c =
     let a = c.args in
     let out = a.out.now in
     rw (tail_is 1 out) (omega (arith, payload_short a.set.colors.n a.set.ids.now c.requires.0 a.set.within, length-drop 1 out))
