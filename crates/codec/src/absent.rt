@@ -1,6 +1,7 @@
 // The ids absent from a dense set, listed before they are coded as distances.
 // `as` below: no `From` leads between u32 and usize, and no number is cut by it, which is proved.
 ghost use Rattle.std.specs.Prelude.{◌≡◌, ◌++◌, ◌+◌, ◌-◌, ◌*◌, ◌<◌, ◌≤◌, ◌^◌, length, take, drop, true};
+ghost use Rattle.base.specs.Parts.{over};
 ghost use Rattle.codec.specs.Sets.{gap_bits, absent};
 ghost use Rattle.codec.specs.Inside.Writers.{Ready, Wrote};
 ghost use Rattle.codec.specs.Inside.Gaps.{coded_ids, numbers, Listed, AbsentIn};
@@ -8,6 +9,15 @@ ghost use Rattle.codec.specs.Inside.Gaps.{coded_ids, numbers, Listed, AbsentIn};
 use crate::bits::BitWriter;
 use crate::colors::ColorSet;
 use crate::gaps::{Absent, Cursor, Present};
+
+// `fill_numbers` as a call of its own: its loop would stand in the one that lists ids as often as that is unrolled.
+#[inline(never)]
+fn list_many(from: u32, to: u32, room: &mut [u32], k: usize)
+    requires { (from ≤ to) × (k + (to - from) ≤ length room.old) }
+    ensures { room.new ≡ over (take k room.old ++ numbers from (to - from)) room.old }
+{
+    crate::gaps::fill_numbers(from, to, room, k);
+}
 
 // The numbers from `from` up to `to` to place `k` of `room` on. Four are put there in any case, so that up to four
 // need no branch: one would often be mispredicted.
@@ -19,7 +29,7 @@ fn list_numbers(from: u32, to: u32, room: &mut [u32], k: usize)
 {
     room[k..k + 4].copy_from_slice(&[from, from + 1, from + 2, from + 3]);
     if 4 < to - from {
-        crate::gaps::fill_numbers(from, to, room, k);
+        list_many(from, to, room, k);
     }
 }
 
@@ -57,7 +67,7 @@ pub(crate) fn list_absent(set: ColorSet, room: &mut [u32])
     }
     let i = len / 8 * 8;
     from = list_up_to(set, Cursor { i, from }, len, room);
-    crate::gaps::fill_numbers(from, set.colors.n, room, from as usize - len);
+    list_many(from, set.colors.n, room, from as usize - len);
 }
 
 // How many bits the ids absent from a set take. They are in `list`, where there is one.

@@ -31,6 +31,6 @@ returns c =
     let room = c.list_up_to-from-2.new.room in
     let so = c.list_up_to-from-2.ensures in
     let k : from - n + (s.colors.n - from) ≡ s.colors.n - n = omega (arith, so.passed, so.ahead.below) in
-    ap (λ (j : ℕ). take j c.fill_numbers.new.out) (sym k)
-    ∙ numbers_at room c.fill_numbers.new.out (from - n) (s.colors.n - from) (s.colors.n - from) from (omega arith) (le_refl (s.colors.n - from)) c.fill_numbers.ensures.1
+    ap (λ (j : ℕ). take j c.list_many.new.room) (sym k)
+    ∙ numbers_at room c.list_many.new.room (from - n) (s.colors.n - from) (s.colors.n - from) from (omega arith) (le_refl (s.colors.n - from)) c.list_many.ensures
     ∙ sym (listed_all s.colors.n s.ids.now room n from so (le_refl n))

@@ -24,7 +24,7 @@ returns-then-to-from-gt4 c =
     let part = c.copy_from_slice.new.self in
     let m : ℕ = a.to - a.from in
     let mid : List ℕ = put_mid a.k (a.k + 4 - a.k) old part in
-    numbers_at mid c.fill_numbers.new.out a.k m m a.from (omega arith) (le_refl m) c.fill_numbers.ensures.1
+    numbers_at mid c.list_many.new.room a.k m m a.from (omega arith) (le_refl m) c.list_many.ensures
     ∙ ap (λ (l : List ℕ). l ++ numbers a.from m) (take-put_mid_below a.k (a.k + 4 - a.k) old part a.k (le_refl a.k) (omega arith))
 
 pub returns-else-to-from-gt4 : goal.returns-else-to-from-gt4
