@@ -76,16 +76,16 @@ pub fn write_color_record(n: u32, ids: &[u32], out: &mut [u8]) -> Result<usize, 
 fn write_dense(set: ColorSet, out: &mut [u8]) -> Result<usize, Refusal>
     ensures { (of_written result, out.new) ≡ write_record set.entry.colors.n set.entry.ids.now out.old }
 {
-    let space = set.colors.n as usize - set.ids.len() + 4;
-    if space <= 64 {
-        let mut room = [0u32; 64];
+    let absent = set.colors.n as usize - set.ids.len();
+    if absent <= 64 {
+        let mut room = [0u32; 68];
         return write_listed(set, &mut room, out);
     }
-    if space <= 1024 {
-        let mut room = [0u32; 1024];
+    if absent <= 1024 {
+        let mut room = [0u32; 1028];
         return write_listed(set, &mut room, out);
     }
-    if space <= 16384 {
+    if absent <= 16384 {
         return write_many_listed(set, out);
     }
     write_long(set, None, out)
@@ -94,14 +94,14 @@ fn write_dense(set: ColorSet, out: &mut [u8]) -> Result<usize, Refusal>
 // The same, with room for more ids. It stands alone in the machine code, as `read_long_payload` does.
 #[inline(never)]
 fn write_many_listed(set: ColorSet, out: &mut [u8]) -> Result<usize, Refusal>
-    requires { set.colors.n + 4 ≤ length set.ids.now + 16384 }
+    requires { set.colors.n ≤ length set.ids.now + 16384 }
     ensures { (of_written result, out.new) ≡ write_record set.entry.colors.n set.entry.ids.now out.old }
 {
-    let mut room = [0u32; 16384];
+    let mut room = [0u32; 16388];
     write_listed(set, &mut room, out)
 }
 
-// The same, with the absent ids listed in `room`.
+// The same, with the absent ids listed in `room`, which has four places more than they are: see `list_numbers`.
 fn write_listed(set: ColorSet, room: &mut [u32], out: &mut [u8]) -> Result<usize, Refusal>
     requires { set.colors.n + 4 ≤ length set.ids.now + length room.old }
     ensures { (of_written result, out.new) ≡ write_record set.entry.colors.n set.entry.ids.now out.old }
