@@ -1,6 +1,6 @@
 // The ids absent from a dense set, listed before they are coded as distances.
 // `as` below: no `From` leads between u32 and usize, and no number is cut by it, which is proved.
-ghost use Rattle.std.specs.Prelude.{◌≡◌, ◌++◌, ◌+◌, ◌-◌, ◌*◌, ◌<◌, ◌≤◌, ◌^◌, length, take, drop, true};
+ghost use Rattle.std.specs.Prelude.{◌≡◌, ◌++◌, ◌+◌, ◌-◌, ◌≤◌, ◌^◌, length, take, true};
 ghost use Rattle.base.specs.Parts.{over};
 ghost use Rattle.codec.specs.Sets.{gap_bits, absent};
 ghost use Rattle.codec.specs.Inside.Writers.{Ready, Wrote};
