@@ -15,6 +15,7 @@ pub mod Sets
 pub mod Members
 pub mod Gaps
 pub mod Coded
+pub mod Absent
 pub mod Bitmaps
 pub mod Chunks
 pub mod Filled

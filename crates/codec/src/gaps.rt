@@ -88,8 +88,7 @@ fn skip_present(set: ColorSet, c: Cursor) -> usize
     ensures { Skipped set.entry.colors.n set.entry.ids.now c.i c.from result × Within (c.from + result + 1) set.entry.colors.n (drop (c.i + result) set.entry.ids.now) }
 {
     let left = set.ids.len() - c.i;
-    // Eights by number: over `as_chunks` dense sets are written 1 to 3% slower, and where an id in ten is absent
-    // writing them is slower than the reference already.
+    // Eights by number: over `as_chunks` this takes 1 to 3% longer.
     for eight in 0..left / 8 {
         let k = 8 * eight;
         if set.ids[c.i + k + 7] as usize != c.from as usize + k + 7 {

@@ -1,6 +1,7 @@
 // Sets of strain numbers as bits, bytes and record files.
 #![tactic(auto)]
 
+mod absent; // the ids absent from a dense set, listed
 mod bits; // bits of a byte slice, and a writer of bits
 mod bitmap; // a set as one bit for each id
 mod body; // what a payload holds

@@ -5,11 +5,13 @@ ghost use Rattle.base.specs.Answers.{of_written, of_given};
 ghost use Rattle.base.specs.Parts.{over};
 ghost use Rattle.codec.specs.Records.{bad_colors, record_of, write_record, record_length, read_into, is_record};
 ghost use Rattle.codec.specs.Sets.{encode_set, decode_set};
+ghost use Rattle.codec.specs.Inside.Gaps.{AbsentIn};
 ghost use Rattle.codec.specs.Inside.Payloads.{put_set};
 
 use crate::colors::{ColorSet, Colors};
 use crate::measured::Measured;
 use crate::prefix::Prefix;
+use crate::sets::Kind;
 use crate::source::Source;
 use base::{Given, Refusal};
 
@@ -44,7 +46,7 @@ fn write_short(set: ColorSet, out: &mut [u8]) -> usize
     ensures { (result ≡ length (record_of set.entry.colors.n set.entry.ids.now)) × (result ≤ 128) × (out.new ≡ over (record_of set.entry.colors.n set.entry.ids.now) out.old) }
 {
     let mut room = [0u8; 136];
-    let len = crate::sets::encode_source_set(&mut room, set);
+    let len = crate::sets::encode_source_set(&mut room, set, None);
     out[1..len + 1].copy_from_slice(&room[..len]);
     out[0] = len as u8;
     len + 1
@@ -58,7 +60,63 @@ pub fn write_color_record(n: u32, ids: &[u32], out: &mut [u8]) -> Result<usize, 
     if is_short(n, out.len()) {
         return Ok(write_short(set, out));
     }
-    Measured::of(set).write_record(out)
+    match crate::sets::kind_of(n, ids.len()) {
+        Kind::Dense => write_dense(set, out),
+        _ => write_long(set, None, out),
+    }
+}
+
+// The record of a dense set to the front of `out`. The ids absent from it are listed first, where they are not too many,
+// so that they are found once. Few are given little room, as it is cleared first.
+fn write_dense(set: ColorSet, out: &mut [u8]) -> Result<usize, Refusal>
+    ensures { (of_written result, out.new) ≡ write_record set.entry.colors.n set.entry.ids.now out.old }
+{
+    let absent = set.colors.n as usize - set.ids.len();
+    if absent <= 64 {
+        let mut room = [0u32; 68];
+        return write_listed(set, &mut room, out);
+    }
+    if absent <= 1024 {
+        let mut room = [0u32; 1028];
+        return write_listed(set, &mut room, out);
+    }
+    if absent <= 16384 {
+        return write_many_listed(set, out);
+    }
+    write_long(set, None, out)
+}
+
+// The same, with room for more ids. It stands alone in the machine code, as `read_long_payload` does.
+#[inline(never)]
+fn write_many_listed(set: ColorSet, out: &mut [u8]) -> Result<usize, Refusal>
+    requires { set.colors.n ≤ length set.ids.now + 16384 }
+    ensures { (of_written result, out.new) ≡ write_record set.entry.colors.n set.entry.ids.now out.old }
+{
+    let mut room = [0u32; 16388];
+    write_listed(set, &mut room, out)
+}
+
+// The same, with the absent ids listed in `room`, which has four places more than they are: see `list_numbers`.
+fn write_listed(set: ColorSet, room: &mut [u32], out: &mut [u8]) -> Result<usize, Refusal>
+    requires { set.colors.n + 4 ≤ length set.ids.now + length room.old }
+    ensures { (of_written result, out.new) ≡ write_record set.entry.colors.n set.entry.ids.now out.old }
+{
+    crate::absent::list_absent(set, room);
+    let count = set.colors.n as usize - set.ids.len();
+    let list = ColorSet {
+        colors: set.colors,
+        ids: &room[..count],
+    };
+    write_long(set, Some(list), out)
+}
+
+// The record of a set to the front of `out`. The ids absent from it are in `list`, where there is one.
+fn write_long(set: ColorSet, list: Option<ColorSet>, out: &mut [u8]) -> Result<usize, Refusal>
+    requires { AbsentIn set.colors.n set.ids.now list }
+    ensures { (of_written result, out.new) ≡ write_record set.entry.colors.n set.entry.ids.now out.old }
+{
+    let len = crate::measured::payload_len(set, list);
+    crate::measured::write_measured(set, len, list, out)
 }
 
 // The set at the front of `input` to the front of `ids`. A prefix that isn't whole passes its refusal straight up.

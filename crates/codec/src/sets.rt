@@ -5,7 +5,7 @@ ghost use Rattle.base.specs.Parts.{over};
 ghost use Rattle.codec.specs.Bits.{bits_of};
 ghost use Rattle.codec.specs.Sets.{within, regime, dense, body_bits, set_bits, encode_set, read_map, read_body, padding, decode_set};
 ghost use Rattle.codec.specs.Inside.Writers.{Ready, Wrote};
-ghost use Rattle.codec.specs.Inside.Gaps.{BitsAt};
+ghost use Rattle.codec.specs.Inside.Gaps.{BitsAt, AbsentIn};
 ghost use Rattle.codec.specs.Inside.Payloads.{has_fall, regime_of, set_ids, gives_set};
 ghost use Rattle.codec.specs.Inside.Bodies.{bits_in, IdsAt, KeptBy, KeptIn, IsBody, PayloadOf, KeptOf};
 
@@ -63,8 +63,9 @@ pub(crate) fn kind_of(n: u32, len: usize) -> Kind
     Kind::Dense
 }
 
-// How many bits a set takes.
-pub(crate) fn set_len(set: ColorSet) -> usize
+// How many bits a set takes. The ids absent from it are in `list`, where there is one.
+pub(crate) fn set_len(set: ColorSet, list: Option<ColorSet>) -> usize
+    requires { AbsentIn set.colors.n set.ids.now list }
     ensures { (result ≡ length (set_bits set.entry.colors.n set.entry.ids.now)) × (result < 2 ^ 26) }
 {
     let head = crate::codes::delta_len(set.ids.len() as u32);
@@ -72,13 +73,14 @@ pub(crate) fn set_len(set: ColorSet) -> usize
         Kind::Empty => head,
         Kind::Sparse => head + crate::gaps::gaps_len::<Present>(set),
         Kind::Bitmap => head + set.colors.n as usize,
-        Kind::Dense => head + crate::gaps::gaps_len::<Absent>(set),
+        Kind::Dense => head + crate::absent::absent_len(set, list),
     }
 }
 
-// The ids behind the bits of `w`.
-pub(crate) fn write_body(w: &mut BitWriter, set: ColorSet)
-    requires { Ready w.old (length (body_bits (regime set.colors.n (length set.ids.now)) set.colors.n set.ids.now)) }
+// The ids behind the bits of `w`. Those absent are in `list`, where there is one.
+pub(crate) fn write_body(w: &mut BitWriter, set: ColorSet, list: Option<ColorSet>)
+    requires listed { AbsentIn set.colors.n set.ids.now list }
+    requires ready { Ready w.old (length (body_bits (regime set.colors.n (length set.ids.now)) set.colors.n set.ids.now)) }
     ensures same_reference { w.new.out.ghost_name ≡ w.old.out.ghost_name }
     ensures wrote { Wrote w.old w.new (body_bits (regime set.entry.colors.n (length set.entry.ids.now)) set.entry.colors.n set.entry.ids.now) }
 {
@@ -86,18 +88,20 @@ pub(crate) fn write_body(w: &mut BitWriter, set: ColorSet)
         Kind::Empty => {}
         Kind::Sparse => crate::gaps::write_gaps::<Present>(w, set),
         Kind::Bitmap => crate::bitmap::write_map(w, set),
-        Kind::Dense => crate::gaps::write_gaps::<Absent>(w, set),
+        Kind::Dense => crate::absent::write_absent(w, set, list),
     }
 }
 
-// The payload of a set to the front of `out`: how many bytes it has. What lies behind it may be written too.
-pub(crate) fn encode_source_set(out: &mut [u8], set: ColorSet) -> usize
-    requires { length (encode_set set.colors.n set.ids.now) ≤ length out.old }
+// The payload of a set to the front of `out`: how many bytes it has. What lies behind it may be written too. The ids absent
+// from the set are in `list`, where there is one.
+pub(crate) fn encode_source_set(out: &mut [u8], set: ColorSet, list: Option<ColorSet>) -> usize
+    requires listed { AbsentIn set.colors.n set.ids.now list }
+    requires space { length (encode_set set.colors.n set.ids.now) ≤ length out.old }
     ensures { (result ≡ length (encode_set set.entry.colors.n set.entry.ids.now)) × (take result out.new ≡ encode_set set.entry.colors.n set.entry.ids.now) × (length out.new ≡ length out.old) }
 {
     let mut w = BitWriter::new(out);
     crate::codes::write_delta(&mut w, set.ids.len() as u32);
-    write_body(&mut w, set);
+    write_body(&mut w, set, list);
     w.finish()
 }
 

@@ -5,6 +5,7 @@ use Rattle.codec.specs.Bits.{bits_of, digit}
 use Rattle.codec.specs.Sets.{Within, map_bits, ids_of, absent, gap_bits, ReadIds, given, none}
 use Rattle.codec.specs.Inside.Writers.{Wrote}
 use Rattle.codec.specs.declared.bits.BitWriter.{BitWriter}
+use Rattle.codec.specs.declared.colors.ColorSet.{ColorSet}
 use Rattle.codec.specs.declared.gaps.Cursor.{Cursor}
 use Rattle.codec.specs.declared.gaps.NextBits.{NextBits}
 use Rattle.codec.specs.declared.gaps.NextId.{NextId}
@@ -46,6 +47,17 @@ abbrev pub Gave : Bool → ℕ → List ℕ → Cursor → Option NextId → Typ
 Gave dense N ids c (Some g) =
     (coded_from dense N ids c ≡ g.id ∷ coded_from dense N ids g.next) × (c.from ≤ g.id) × (g.id < N) × (g.next.from ≡ g.id + 1) × Ahead N ids g.next
 Gave dense N ids c None = coded_from dense N ids c ≡ []
+
+-- the absent ids below a cursor stand in the front of `room`: as many as numbers are passed and ids are not
+pub record Listed (N : ℕ) (ids : List ℕ) (c : Cursor) (room : List ℕ) : Type 0 where
+  pub ahead : Ahead N ids c
+  pub passed : c.i ≤ c.from
+  pub list : absent N ids ≡ take (c.from - c.i) room ++ absent_from c.from (N - c.from) (drop c.i ids)
+
+-- a list of the absent ids, where there is one
+abbrev pub AbsentIn : ℕ → List ℕ → Option ColorSet → Type 0
+AbsentIn N ids (Some list) = list.ids.now ≡ absent N ids
+AbsentIn N ids None = Unit {0}
 
 -- k numbers from `from` on
 unfoldable pub numbers : ℕ → ℕ → List ℕ

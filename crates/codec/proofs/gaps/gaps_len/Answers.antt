@@ -19,4 +19,3 @@ loop-count-preserved g c =
       omega (arith, length-append inv.0 more.0, inv.2, more.1),
       omega (arith, inv.3, more.4),
     )
-

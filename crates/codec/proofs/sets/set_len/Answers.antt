@@ -18,7 +18,7 @@ overflow_add-result c =
 pub overflow_add-result-in-Dense : goal.overflow_add-result-in-Dense
 overflow_add-result-in-Dense c =
     let s = c.args.set in
-    omega (arith, c.delta_len-head.ensures.0, c.gaps_len-in-Dense.ensures, set_short s.colors.n s.ids.now _ (body_dense s.colors.n s.ids.now c.kind_of.result c.kind_of.ensures c.in-Dense.is) s.colors.few s.within)
+    omega (arith, c.delta_len-head.ensures.0, c.absent_len.ensures, set_short s.colors.n s.ids.now _ (body_dense s.colors.n s.ids.now c.kind_of.result c.kind_of.ensures c.in-Dense.is) s.colors.few s.within)
 
 pub returns-in-Empty : goal.returns-in-Empty
 returns-in-Empty c =
@@ -42,4 +42,4 @@ pub returns-in-Dense : goal.returns-in-Dense
 returns-in-Dense c =
     let s = c.args.set in
     let b = body_dense s.colors.n s.ids.now c.kind_of.result c.kind_of.ensures c.in-Dense.is in
-    (omega (arith, c.delta_len-head.ensures.0, c.gaps_len-in-Dense.ensures, set_length s.colors.n s.ids.now _ b), omega (arith, c.delta_len-head.ensures.0, c.gaps_len-in-Dense.ensures, set_short s.colors.n s.ids.now _ b s.colors.few s.within))
+    (omega (arith, c.delta_len-head.ensures.0, c.absent_len.ensures, set_length s.colors.n s.ids.now _ b), omega (arith, c.delta_len-head.ensures.0, c.absent_len.ensures, set_short s.colors.n s.ids.now _ b s.colors.few s.within))

@@ -11,19 +11,19 @@ pub write_gaps-requires : goal.write_gaps-requires
 write_gaps-requires c =
     let a = c.args in
     let b = body_sparse a.set.colors.n a.set.ids.now c.kind_of.result c.kind_of.ensures c.in-Sparse.is in
-    subst (Ready a.w.now) (sym (ap length b)) c.requires
+    subst (Ready a.w.now) (sym (ap length b)) c.requires.ready
 
 pub write_map-requires : goal.write_map-requires
 write_map-requires c =
     let a = c.args in
     let b = body_bitmap a.set.colors.n a.set.ids.now c.kind_of.result c.kind_of.ensures c.in-Bitmap.is in
-    subst (Ready a.w.now) (sym (ap length b) ∙ length_map_bits a.set.colors.n 0 a.set.ids.now) c.requires
+    subst (Ready a.w.now) (sym (ap length b) ∙ length_map_bits a.set.colors.n 0 a.set.ids.now) c.requires.ready
 
-pub write_gaps-requires-in-Dense : goal.write_gaps-requires-in-Dense
-write_gaps-requires-in-Dense c =
+pub write_absent-requires-clause-ready : goal.write_absent-requires-clause-ready
+write_absent-requires-clause-ready c =
     let a = c.args in
     let b = body_dense a.set.colors.n a.set.ids.now c.kind_of.result c.kind_of.ensures c.in-Dense.is in
-    subst (Ready a.w.now) (sym (ap length b)) c.requires
+    subst (Ready a.w.now) (sym (ap length b)) c.requires.ready
 
 pub returns-in-Empty-clause-wrote : goal.returns-in-Empty-clause-wrote
 returns-in-Empty-clause-wrote c =
@@ -47,4 +47,4 @@ pub returns-in-Dense-clause-wrote : goal.returns-in-Dense-clause-wrote
 returns-in-Dense-clause-wrote c =
     let a = c.args in
     let b = body_dense a.set.colors.n a.set.ids.now c.kind_of.result c.kind_of.ensures c.in-Dense.is in
-    subst (Wrote a.w.now c.write_gaps-in-Dense.new.w) b c.write_gaps-in-Dense.ensures.wrote
+    subst (Wrote a.w.now c.write_absent.new.w) b c.write_absent.ensures.wrote
