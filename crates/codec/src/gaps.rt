@@ -7,6 +7,7 @@ ghost use Rattle.codec.specs.Codes.{delta};
 ghost use Rattle.codec.specs.Sets.{Within, gap_bits, read_gaps, absent};
 ghost use Rattle.codec.specs.Inside.Writers.{Ready, Wrote};
 ghost use Rattle.codec.specs.Inside.Gaps.{coded_ids, numbers, Ahead, up_in, Skipped, Gave, GaveEight, bits_from, CountedFrom, WroteFrom, BitsAt, is_given, Put, Kept, ids_in};
+ghost use Rattle.codec.specs.Inside.Bitmaps.{Front};
 ghost use Rattle.codec.specs.Inside.Bodies.{gaps_in, IdsAt};
 
 use crate::bits::BitWriter;
@@ -293,15 +294,30 @@ pub(crate) fn fill_numbers(from: u32, to: u32, out: &mut [u32], k: usize) -> usi
     end
 }
 
+// The numbers from `from` up to `to` to place `k` of `out` on, where they don't pass place `count`: the place behind them. Up to
+// eight are put as eight, where these don't pass it either, since later ones are put over them: so their count is no branch.
+fn fill_gap(from: u32, to: u32, count: usize, out: &mut [u32], k: usize) -> usize
+    requires numbers { (from ≤ to) × (from + 8 < 2 ^ 32) }
+    requires places { (k + (to - from) ≤ count) × (count ≤ length out.old) }
+    ensures { (result ≡ k + (to - from)) × Front (take k out.old ++ numbers from (to - from)) count out.old out.new }
+{
+    if count < k + 8 || 8 < to - from {
+        return fill_numbers(from, to, out, k);
+    }
+    fill_numbers(from, from + 8, out, k);
+    k + (to - from) as usize
+}
+
 // The ids below `top` but for `others`, to the front of `out`.
 fn fill_outside(others: &[u32], top: u32, out: &mut [u32])
-    requires { Within 0 top others.now × (top ≤ length others.now + length out.old) }
+    requires { Within 0 top others.now × (top ≤ length others.now + length out.old) × (top ≤ 2 ^ 20) }
     ensures { out.new ≡ over (absent top others.now) out.old }
 {
+    let count = top as usize - others.len();
     let mut from: u32 = 0;
     let mut k: usize = 0;
     for &id in others {
-        k = fill_numbers(from, id, out, k);
+        k = fill_gap(from, id, count, out, k);
         from = id + 1;
     }
     fill_numbers(from, top, out, k);

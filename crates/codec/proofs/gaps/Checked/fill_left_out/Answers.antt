@@ -17,7 +17,7 @@ fill_outside-requires c =
     let a = given_is _ s.accepted in
     let g = gaps_only s.body.count 0 s.body.colors.n _ a.0 a.1 a.2 in
     let k = s.kept s.accepted c.if-count-self.true ∙ ap ids_in a.2 in
-    (subst (Within 0 s.body.colors.n) (sym k) g.within, omega (arith, length-take-le s.body.count s.room.now c.if-count-self.true))
+    (subst (Within 0 s.body.colors.n) (sym k) g.within, omega (arith, length-take-le s.body.count s.room.now c.if-count-self.true), s.body.colors.few)
 
 pub returns-then-count-self : goal.returns-then-count-self
 returns-then-count-self c =
