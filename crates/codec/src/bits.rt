@@ -2,7 +2,7 @@
 // Bytes and bit place are plain parameters, as the specification names this form for the readers of codes above, so
 // a function says itself how long the bytes are at most.
 // `as` below: no `From` leads from u32 to usize.
-ghost use Rattle.std.specs.Prelude.{◌≡◌, ◌++◌, ◌+◌, ◌-◌, ◌*◌, ◌<◌, ◌≤◌, ◌^◌, length, slice_get, take, drop};
+ghost use Rattle.std.specs.Prelude.{◌≡◌, ◌++◌, ◌+◌, ◌-◌, ◌*◌, ◌%◌, ◌<◌, ◌≤◌, ◌^◌, true, length, slice_get, take, drop, replicate};
 ghost use Rattle.base.specs.Parts.{over};
 ghost use Rattle.codec.specs.Bits.{bits_of, value_of, low_bits, pack_bits, AreBytes};
 ghost use Rattle.codec.specs.Inside.Windows.{Window};
@@ -66,6 +66,13 @@ pub(crate) fn bits_at(bytes: &[u8], at: usize, b: usize) -> u64
     ensures { (result ≡ value_of (take b (drop at (bits_of bytes.now)))) × (result < 2 ^ b) }
 {
     (window_at(bytes, at / 8) >> (at % 8)) % (1u64 << b)
+}
+
+// How many ones stand at the low end of a number.
+pub(crate) fn low_ones(word: u64) -> usize
+    ensures { (low_bits result word ≡ replicate result true) × (word % 2 ≡ 1 → 0 < result) }
+{
+    (!word).trailing_zeros() as usize
 }
 
 // The `len` low bytes of `x` to place `at`. All eight are stored where there is space for them, so that most words take one

@@ -83,13 +83,14 @@ impl Body<'_> {
 
     // Behind the ones that the number begins with: each is the code of an id that is one above the id before it.
     #[inline(always)]
-    fn read_run(self, r: Reached, word: u64, room: &mut [u32]) -> Option<Reached>
-        requires within { Within self r × (r.i < self.count) }
-        requires shown { Shown self.source.bytes.now r.place word 57 × (word % 2 ≡ 1) }
-        ensures { ReadOn 1 self.entry r room.old room.new result }
+    fn read_run(self, s: Seen, room: &mut [u32]) -> Option<Reached>
+        requires within { SeenAt self s × (s.reached.i < self.count) }
+        requires one { (0 < s.many) × (s.word % 2 ≡ 1) }
+        ensures { ReadOn 1 self.entry s.reached room.old room.new result }
     {
-        let ones = (!word).trailing_zeros() as usize;
-        let k = ones.min(57).min(self.count - r.i);
+        let r = s.reached;
+        let ones = crate::bits::low_ones(s.word);
+        let k = ones.min(s.many).min(self.count - r.i);
         if ((self.colors.n - r.from) as usize) < k {
             return None;
         }
@@ -123,16 +124,10 @@ impl Body<'_> {
 
     // Behind the codes that the number shows so, three at most. Where ones follow the first, they are read as a run next.
     #[inline(always)]
-    fn read_three(self, r: Reached, word: u64, room: &mut [u32]) -> Option<Reached>
-        requires within { Within self r × (r.i + 3 ≤ self.count) }
-        requires shown { Shown self.source.bytes.now r.place word 57 }
-        ensures { ReadOn 0 self.entry r room.old room.new result }
+    fn read_three(self, s: Seen, room: &mut [u32]) -> Option<Reached>
+        requires { SeenAt self s × (s.reached.i + 3 ≤ self.count) }
+        ensures { ReadOn 0 self.entry s.reached room.old room.new result }
     {
-        let s = Seen {
-            reached: r,
-            word,
-            many: 57,
-        };
         let s = self.read_seen(s, room)?;
         if s.word % 16 == 15 {
             return Some(s.reached);
@@ -142,21 +137,49 @@ impl Body<'_> {
         Some(s.reached)
     }
 
-    // Behind ones or codes that one number shows: where three ids or more are left, and eight bytes.
+    // What is seen at the place: 57 bits of the eight bytes there, or, among the last eight, those that are left.
+    #[inline(always)]
+    fn seen_at(self, r: Reached) -> Option<Seen>
+        requires { Within self r }
+        ensures { IfSome result (λ s. SeenAt self.entry s × (s.reached ≡ r) × (0 < s.many)) }
+    {
+        let k = r.place / 8;
+        let len = self.source.bytes.len();
+        if k + 8 <= len {
+            let word = crate::bits::word_at(self.source.bytes, k) >> (r.place % 8);
+            return Some(Seen {
+                reached: r,
+                word,
+                many: 57,
+            });
+        }
+        if 8 * len <= r.place {
+            return None;
+        }
+        let past = r.place - 8 * len.saturating_sub(8);
+        Some(Seen {
+            reached: r,
+            word: self.source.last >> past,
+            many: 8 * len - r.place,
+        })
+    }
+
+    // Behind ones or codes that one number shows, where three ids or more are left.
     #[inline(always)]
     fn read_word(self, r: Reached, room: &mut [u32]) -> Option<Reached>
         requires { Within self r }
         ensures { ReadOn 0 self.entry r room.old room.new result }
     {
-        let k = r.place / 8;
-        if self.count - r.i < 3 || self.source.bytes.len() < k + 8 {
+        if self.count - r.i < 3 {
             return Some(r);
         }
-        let word = crate::bits::word_at(self.source.bytes, k) >> (r.place % 8);
-        if word % 16 == 15 {
-            return self.read_run(r, word, room);
+        let Some(s) = self.seen_at(r) else {
+            return Some(r);
+        };
+        if s.word % 16 == 15 {
+            return self.read_run(s, room);
         }
-        self.read_three(r, word, room)
+        self.read_three(s, room)
     }
 
     // Behind words, as long as one shows ids.

@@ -5,7 +5,7 @@ use mathlib.Core.Bool.{Bool, true}
 use mathlib.Core.List.{List, [], ◌∷◌, ◌++◌, append_assoc, append-nil}
 use native.Mathlib.Nat.{suc-add}
 use native.Mathlib.Decide.{dec_lt}
-use Rattle.std.specs.Prelude.{min, Some, None}
+use Rattle.std.specs.Prelude.{Option, min, Some, None}
 use native.Mathlib.Omega.{arith}
 use lib.ListN.{length, take, drop, replicate, set, length-append, length-take}
 use lib.Seq.{take_all, take_at, take-append-add, take-append-le, length-take-le}
@@ -16,7 +16,7 @@ use Rattle.codec.specs.Codes.{got, gamma, delta, high_bit, high_in, read_delta}
 use Rattle.codec.specs.Sets.{ReadIds, given, none, then_id, read_gaps}
 use Rattle.codec.specs.Inside.Gaps.{with_ids, numbers, Put}
 use Rattle.codec.specs.Inside.Bodies.{bits_in, gaps_in, IdsAt}
-use Rattle.codec.specs.Inside.GapReader.{ReadTo, to_read}
+use Rattle.codec.specs.Inside.GapReader.{ReadTo, ReadOn, to_read}
 use Rattle.codec.specs.Inside.Places.{ReadCodeAt}
 use Rattle.codec.specs.declared.body.Body.{Body}
 use Rattle.codec.specs.declared.gap_reader.Reached.{Reached}
@@ -184,6 +184,11 @@ module _ (b : Body) (r : Reached) where
           ∙ ap (with_ids so.ids) (ap (read_gaps (k + (b.count - (r.i + k))) r.from N) ones ∙ gaps_ones k (b.count - (r.i + k)) r.from N behind h)
           ∙ with_with so.ids (numbers r.from k) (read_gaps (b.count - (r.i + k)) (r.from + k) N behind);
     }
+
+-- further on is no less than on
+pub read_on : (b : Body) (r : Reached) (room new : List ℕ) (o : Option Reached) → ReadOn 1 b r room new o → ReadOn 0 b r room new o
+read_on b r room new (Some s) h = (h.0, omega (arith, h.1), h.2)
+read_on b r room new None h = h
 
 -- ---- from the start to the end
 

@@ -2,10 +2,10 @@
 use Prim.Native.Nat.{ℕ, zero, suc, ◌+◌, ◌-◌, ◌*◌, ◌/◌, ◌%◌, ◌^◌, ◌≤◌, ◌<◌}
 use mathlib.Core.Path.{◌≡◌, refl, sym, ap, ◌∙◌, subst}
 use mathlib.Core.Bool.{Bool, true}
-use mathlib.Core.List.{List, ◌∷◌, ◌++◌, append_assoc}
+use mathlib.Core.List.{List, ◌∷◌, ◌++◌}
 use native.Mathlib.Nat.{pow-suc}
 use native.Mathlib.Omega.{arith}
-use lib.ListN.{length, take, drop, replicate, take-append-drop, length-drop}
+use lib.ListN.{length, take, drop, replicate, take-append-drop, length-drop, length-replicate, replicate-append-replicate}
 use lib.Seq.{drop-drop, drop_at, take_at, length-take-le}
 use lib.Count.{count_trailing_zeros, under}
 use Rattle.std.proofs.Math.Seq.{take-add}
@@ -13,28 +13,20 @@ use Rattle.std.specs.Prelude.{Some}
 use Rattle.codec.specs.Bits.{is_one, low_bits, bits_of}
 use Rattle.codec.specs.Codes.{delta, read_delta}
 use Rattle.codec.specs.Inside.Places.{ReadCodeAt}
-use Rattle.codec.specs.Inside.Windows.{Shown}
+use Rattle.codec.specs.Inside.Windows.{Window, Shown}
 use Rattle.codec.proofs.Laws.Low.{length_low, low_add, length_bits}
 use Rattle.codec.proofs.Laws.Codes.{delta_read}
-use Rattle.codec.proofs.Laws.Windows.{drop_bits}
+use Rattle.codec.proofs.Laws.Windows.{window_bits, word_window}
 
--- eight bytes that are read as a number show the bits from any place in the first of them on
+-- a window shows the bits from a place on, as many as lie in it
+pub shown_window : (bytes : List ℕ) (k at r n : ℕ) → Window bytes k r → 8 * k ≤ at → at + n ≤ 8 * k + 64 → at + n ≤ 8 * length bytes → Shown bytes at (r / 2 ^ (at - 8 * k)) n
+shown_window bytes k at r n shown low high h = record { bits = window_bits bytes k at r n shown low high h; inside = h }
+
+-- and eight bytes 57 from any place in the first of them on
 pub shown_word : (bytes : List ℕ) (at w : ℕ) → at / 8 + 8 ≤ length bytes → bits_of (drop (at / 8) bytes) ≡ low_bits 64 w ++ bits_of (drop (at / 8 + 8) bytes) → Shown bytes at (w / 2 ^ (at % 8)) 57
 shown_word bytes at w long e =
-    let j : ℕ = at % 8 in
-    let rest : List Bool = bits_of (drop (at / 8 + 8) bytes) in
-    let p : at ≡ 8 * (at / 8) + j = omega arith in
-    let q : 64 ≡ j + (57 + (7 - j)) = omega arith in
-    let s : drop at (bits_of bytes) ≡ low_bits (57 + (7 - j)) (w / 2 ^ j) ++ rest =
-    ap (λ (n : ℕ). drop n (bits_of bytes)) p ∙ sym (drop-drop j (8 * (at / 8)) (bits_of bytes)) ∙ ap (drop j) (drop_bits bytes (at / 8) ∙ e ∙ ap (λ (n : ℕ). low_bits n w ++ rest) q ∙ ap (λ (l : List Bool). l ++ rest) (low_add j (57 + (7 - j)) w) ∙ append_assoc (low_bits j w) (low_bits (57 + (7 - j)) (w / 2 ^ j)) rest)
-    ∙ drop_at (low_bits j w) (low_bits (57 + (7 - j)) (w / 2 ^ j) ++ rest) j (length_low j w)
-    in
-    record {
-      bits =
-          ap (take 57) (s ∙ ap (λ (l : List Bool). l ++ rest) (low_add 57 (7 - j) (w / 2 ^ j)) ∙ append_assoc (low_bits 57 (w / 2 ^ j)) (low_bits (7 - j) (w / 2 ^ j / 2 ^ 57)) rest)
-          ∙ take_at (low_bits 57 (w / 2 ^ j)) _ 57 (length_low 57 (w / 2 ^ j));
-      inside = omega (arith, long);
-    }
+    let p : at - 8 * (at / 8) ≡ at % 8 = omega arith in
+    subst (λ (j : ℕ). Shown bytes at (w / 2 ^ j) 57) p (shown_window bytes (at / 8) at w 57 (word_window (bits_of (drop (at / 8) bytes)) w _ e) (omega arith) (omega arith) (omega (arith, long)))
 
 module _ (bytes : List ℕ) (at w n more : ℕ) (shown : Shown bytes at w (n + more)) where
   abbrev here : List Bool
@@ -67,6 +59,13 @@ module _ (bytes : List ℕ) (at w n more : ℕ) (shown : Shown bytes at w (n + m
 pub shown_fewer : (bytes : List ℕ) (at w many n : ℕ) → n ≤ many → Shown bytes at w many → Shown bytes at w (n + (many - n))
 shown_fewer bytes at w many n h s = let e : many ≡ n + (many - n) = omega arith in subst (Shown bytes at w) e s
 
+-- a code that a window shows whole is the one that is read
+pub window_found : (bytes : List ℕ) (k at r : ℕ) → Window bytes k r → (v n : ℕ) → (low_bits n (r / 2 ^ (at - 8 * k)) ≡ delta v) × (n ≤ 28) → 8 * k ≤ at → at + n ≤ 8 * k + 64 → at + n ≤ 8 * length bytes
+    → ReadCodeAt read_delta bytes at (Some (record { value = v; next = at + n }))
+window_found bytes k at r shown v n c low high h =
+    let x : ℕ = r / 2 ^ (at - 8 * k) in
+    shown_code bytes at x n (n - n) (shown_fewer bytes at x n n (omega arith) (shown_window bytes k at r n shown low high h)) v c.0
+
 -- ---- ones
 
 -- as many as zeros stand at the low end of the number's complement
@@ -91,5 +90,11 @@ unfolding count_trailing_zeros
 one_at_least m w h odd = let even : (2 ^ suc m - 1 - w) % 2 ≡ 0 = omega (arith, pow-suc 2 m, h, odd) in rw even (omega arith)
 
 -- the ones that a number shows
-pub shown_ones : (bytes : List ℕ) (at w k many : ℕ) → Shown bytes at w many → k ≤ many → w < 2 ^ 64 → k ≤ count_trailing_zeros 64 (2 ^ 64 - 1 - w) → drop at (bits_of bytes) ≡ replicate k true ++ drop (at + k) (bits_of bytes)
-shown_ones bytes at w k many s h fits t = shown_front bytes at w k (many - k) (shown_fewer bytes at w many k h s) ∙ ap (λ (l : List Bool). l ++ drop (at + k) (bits_of bytes)) (low_ones 64 k w fits t)
+pub shown_ones : (bytes : List ℕ) (at w ones k many : ℕ) → Shown bytes at w many → k ≤ many → k ≤ ones → low_bits ones w ≡ replicate ones true → drop at (bits_of bytes) ≡ replicate k true ++ drop (at + k) (bits_of bytes)
+shown_ones bytes at w ones k many s h less are =
+    let e : ones ≡ k + (ones - k) = omega arith in
+    let first : low_bits k w ≡ replicate k true =
+    sym (take_at (low_bits k w) (low_bits (ones - k) (w / 2 ^ k)) k (length_low k w)) ∙ ap (take k) (sym (low_add k (ones - k) w) ∙ ap (λ (n : ℕ). low_bits n w) (sym e) ∙ are ∙ ap (λ (n : ℕ). replicate n true) e ∙ sym (replicate-append-replicate k (ones - k) true))
+    ∙ take_at (replicate k true) (replicate (ones - k) true) k (length-replicate k true)
+    in
+    shown_front bytes at w k (many - k) (shown_fewer bytes at w many k h s) ∙ ap (λ (l : List Bool). l ++ drop (at + k) (bits_of bytes)) first

@@ -10,13 +10,11 @@ use lib.ListN.{length, take, drop, get_or, replicate, length-append, length-drop
 use lib.Seq.{get_or-append-add, drop-cons, drop_at, take_at, drop-drop, take-append-le, drop-append-le}
 use lib.Pow.{pow_pos, pow_mono}
 use Rattle.codec.specs.Bits.{low_bits, value_of, bits_of, AreBytes}
-use Rattle.codec.specs.Codes.{high_bit, gamma, delta, got, read_delta}
+use Rattle.codec.specs.Codes.{high_bit, gamma, delta}
 use Rattle.codec.specs.Inside.Windows.{Window}
-use Rattle.codec.specs.Inside.Places.{ReadCodeAt}
-use Rattle.std.specs.Prelude.{Some}
 use Rattle.std.specs.Int.{w64, from_le_bytes}
 use Rattle.codec.proofs.Laws.Low.{length_low, low_add, low_mod, low_join, value_low, length_bits}
-use Rattle.codec.proofs.Laws.Codes.{high_unique, delta_read}
+use Rattle.codec.proofs.Laws.Codes.{high_unique}
 use Rattle.codec.proofs.Laws.Bits.{low_top, low_more, joined_lt}
 
 -- ---- codes
@@ -191,9 +189,9 @@ tail_window bits n r e small h =
 pub word_window : (bits : List Bool) (r : ℕ) (rest : List Bool) → bits ≡ low_bits 64 r ++ rest → take 64 (bits ++ replicate 64 false) ≡ low_bits 64 r
 word_window bits r rest e = window_from (bits ++ replicate 64 false) _ r (ap (λ (l : List Bool). l ++ replicate 64 false) e ∙ append_assoc (low_bits 64 r) rest (replicate 64 false))
 
--- a code that the window at byte k shows whole is the one that is read
-pub window_found : (xs : List ℕ) (k at r : ℕ) → Window xs k r → (v n : ℕ) → (low_bits n (r / 2 ^ (at - 8 * k)) ≡ delta v) × (n ≤ 28) → 8 * k ≤ at → at + n ≤ 8 * k + 64 → at + n ≤ 8 * length xs → ReadCodeAt read_delta xs at (Some (record { value = v; next = at + n }))
-window_found xs k at r shown v n c low high h =
+-- the bits from a place on that the window at byte k shows
+pub window_bits : (xs : List ℕ) (k at r n : ℕ) → Window xs k r → 8 * k ≤ at → at + n ≤ 8 * k + 64 → at + n ≤ 8 * length xs → take n (drop at (bits_of xs)) ≡ low_bits n (r / 2 ^ (at - 8 * k))
+window_bits xs k at r n shown low high h =
     let w = behind (bits_of (drop k xs) ++ replicate 64 false) r shown in
     let after : List Bool = drop 64 (bits_of (drop k xs) ++ replicate 64 false) in
     let past : ℕ = at - 8 * k in
@@ -213,5 +211,4 @@ window_found xs k at r shown v n c low high h =
     ap (λ (l : List Bool). l ++ replicate 64 false) same ∙ sym (drop-append-le past here (replicate 64 false) inside) ∙ ap (drop past) (w ∙ u) ∙ drop_at (low_bits past r) (low_bits (n + rest) x ++ after) past (length_low past r)
     ∙ ap (λ (l : List Bool). l ++ after) (low_add n rest x) ∙ append_assoc (low_bits n x) (low_bits rest (x / 2 ^ n)) after
     in
-    let found : take n bits ≡ delta v = sym (take-append-le n bits (replicate 64 false) are) ∙ ap (take n) s ∙ take_at (low_bits n x) (low_bits rest (x / 2 ^ n) ++ after) n (length_low n x) ∙ c.0 in
-    (ap read_delta (sym (take-append-drop n bits) ∙ ap (λ (l : List Bool). l ++ drop n bits) found) ∙ delta_read v (drop n bits) ∙ ap (got v) (drop-drop n at (bits_of xs)), h)
+    sym (take-append-le n bits (replicate 64 false) are) ∙ ap (take n) s ∙ take_at (low_bits n x) (low_bits rest (x / 2 ^ n) ++ after) n (length_low n x)

@@ -5,7 +5,7 @@ use native.Mathlib.Omega.{arith}
 use lib.ListN.{length}
 use Rattle.codec.specs.Inside.Windows.{CodedIn}
 use Rattle.std.specs.Prelude.{Some}
-use Rattle.codec.proofs.Laws.Windows.{window_found}
+use Rattle.codec.proofs.Laws.Shown.{window_found}
 use Rattle.codec.proofs.source.Source.last_delta.Goals as goal
 
 -- what the last bytes show, the bit place counted from theirs

@@ -4,7 +4,8 @@ use mathlib.Core.Path.{◌≡◌, subst}
 use native.Mathlib.Omega.{arith}
 use Rattle.codec.specs.Inside.Windows.{CodedIn}
 use Rattle.std.specs.Prelude.{Some}
-use Rattle.codec.proofs.Laws.Windows.{word_window, window_found}
+use Rattle.codec.proofs.Laws.Windows.{word_window}
+use Rattle.codec.proofs.Laws.Shown.{window_found}
 use Rattle.codec.proofs.source.Source.next_delta.Goals as goal
 
 -- what the window shows, its bit place counted from the window's
