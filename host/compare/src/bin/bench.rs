@@ -872,6 +872,9 @@ fn main() {
     for (n, absent) in [(65_536, 500), (655_360, 5000), (1_048_576, 8000)] {
         dense(&mut growth, n, absent);
     }
+    for n in [65_536, 655_360] {
+        holed(&mut growth, n, 10);
+    }
     for times in [1, 10, 100] {
         small_sets(&mut growth, 1000 * times);
     }
@@ -945,7 +948,8 @@ what is above a show of the unitig of one run. The shortest of {} rounds counts;
 Where the proved code is slower than the reference, the tests are the reason: a refusal leaves all lent memory as it was, so a
 call tests everything before it writes anything, where the reference tests little and writes as it goes. \"Tests\" is the same call with no space for its result: it makes every test and is refused (3); reverse in place and make
 index, which test space first or not at all, are refused at their last run (6) or record (4) instead.
-A set with more than 16,384 ids coded as distances is decoded a second time to fill; a set of 136 colours or more
+A set with more than 16,384 ids coded as distances is decoded a second time to fill, and where more are absent from a dense set
+they are looked for twice, to measure it and to write it; a set of 136 colours or more
 is measured before its length prefix can be written; make index reads each prefix twice; a piece is tested for sharpness,
 and its equal neighbours are counted, before it is appended.
 
