@@ -47,7 +47,7 @@ pub(crate) fn chunk_width(base: u32, n: u32, most: u32) -> u32
     (n - base).min(most)
 }
 
-// The low `width` bits of `word` behind the bits of `w`, which takes 32 at a time.
+// The low `width` bits of `word` behind the bits of `w`, in two halves, since `push` takes 56 bits at most.
 fn push_word(w: &mut BitWriter, word: u64, width: u32)
     requires ready { Ready w.old width }
     requires word_bound { (word < 2 ^ width) × (width ≤ 64) }
