@@ -1,6 +1,6 @@
 // Ids coded as distances, read: up to three codes of one window a turn, or a run of ids that go up by one.
 // `as` below: no `From` leads from u32 to usize or back, and no number is cut by it, which is proved.
-ghost use Rattle.std.specs.Prelude.{◌≡◌, ◌++◌, ◌+◌, ◌-◌, ◌*◌, ◌%◌, ◌<◌, ◌≤◌, ◌^◌, Some, IfSome, length, take, set, List, ℕ};
+ghost use Rattle.std.specs.Prelude.{◌≡◌, ◌++◌, ◌+◌, ◌-◌, ◌*◌, ◌/◌, ◌%◌, ◌<◌, ◌≤◌, ◌^◌, Some, IfSome, length, take, set, List, ℕ};
 ghost use Rattle.base.specs.Parts.{over};
 ghost use Rattle.codec.specs.Codes.{read_delta};
 ghost use Rattle.codec.specs.Sets.{read_gaps};
@@ -137,34 +137,39 @@ impl Body<'_> {
         Some(s.reached)
     }
 
-    // What is seen at the place: 57 bits of the eight bytes there, or, among the last eight, those that are left.
+    // Behind ones or codes that a number shows.
     #[inline(always)]
-    fn seen_at(self, r: Reached) -> Option<Seen>
-        requires { Within self r }
-        ensures { IfSome result (λ s. SeenAt self.entry s × (s.reached ≡ r) × (0 < s.many)) }
+    fn read_shown(self, s: Seen, room: &mut [u32]) -> Option<Reached>
+        requires { SeenAt self s × (0 < s.many) × (s.reached.i + 3 ≤ self.count) }
+        ensures { ReadOn 0 self.entry s.reached room.old room.new result }
     {
-        let k = r.place / 8;
-        let len = self.source.bytes.len();
-        if k + 8 <= len {
-            let word = crate::bits::word_at(self.source.bytes, k) >> (r.place % 8);
-            return Some(Seen {
-                reached: r,
-                word,
-                many: 57,
-            });
+        if s.word % 16 == 15 {
+            return self.read_run(s, room);
         }
+        self.read_three(s, room)
+    }
+
+    // The same of the last eight bytes: as many bits as are left.
+    fn read_last(self, r: Reached, room: &mut [u32]) -> Option<Reached>
+        requires within { Within self r × (r.i + 3 ≤ self.count) }
+        requires last { length self.source.bytes.now < r.place / 8 + 8 }
+        ensures { ReadOn 0 self.entry r room.old room.new result }
+    {
+        let len = self.source.bytes.len();
         if 8 * len <= r.place {
-            return None;
+            return Some(r);
         }
         let past = r.place - 8 * len.saturating_sub(8);
-        Some(Seen {
+        let s = Seen {
             reached: r,
             word: self.source.last >> past,
             many: 8 * len - r.place,
-        })
+        };
+        self.read_shown(s, room)
     }
 
-    // Behind ones or codes that one number shows, where three ids or more are left.
+    // The same where three ids or more are left. Of eight bytes 57 bits are shown from any bit of the first on; they stand apart
+    // from the last ones, so that the loop knows their number.
     #[inline(always)]
     fn read_word(self, r: Reached, room: &mut [u32]) -> Option<Reached>
         requires { Within self r }
@@ -173,13 +178,16 @@ impl Body<'_> {
         if self.count - r.i < 3 {
             return Some(r);
         }
-        let Some(s) = self.seen_at(r) else {
-            return Some(r);
-        };
-        if s.word % 16 == 15 {
-            return self.read_run(s, room);
+        let k = r.place / 8;
+        if self.source.bytes.len() < k + 8 {
+            return self.read_last(r, room);
         }
-        self.read_three(s, room)
+        let s = Seen {
+            reached: r,
+            word: crate::bits::word_at(self.source.bytes, k) >> (r.place % 8),
+            many: 57,
+        };
+        self.read_shown(s, room)
     }
 
     // Behind words, as long as one shows ids.

@@ -1,11 +1,9 @@
 -- `body::Body::read_word` meets its contract.
-use mathlib.Core.Path.{subst}
-use Rattle.codec.specs.Inside.GapReader.{ReadOn}
-use Rattle.codec.specs.declared.gap_reader.Reached.{Reached}
-use Rattle.codec.proofs.Laws.GapReader.{read_on}
+use native.Mathlib.Omega.{arith}
+use Rattle.codec.proofs.Laws.Shown.{shown_word}
 use Rattle.codec.proofs.body.Body.read_word.Goals as goal
 
-pub returns-then-s-eq15 : goal.returns-then-s-eq15
-returns-then-s-eq15 c =
+pub read_shown-requires : goal.read_shown-requires
+read_shown-requires c =
     let a = c.args in
-    subst (λ (r : Reached). ReadOn 0 a.self r a.room.now c.read_run.new.room c.read_run.result) c.in-Some.ensures.1 (read_on a.self c.in-Some.s.reached a.room.now c.read_run.new.room c.read_run.result c.read_run.ensures)
+    ((c.requires, shown_word a.self.source.bytes.now a.r.place c.word_at.result (omega arith) c.word_at.ensures), omega arith, omega arith)
