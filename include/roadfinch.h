@@ -8,7 +8,8 @@
  * Memory. The caller owns everything. A buffer is a pointer and the number of its items; it is lent for the call and nothing
  * is kept. No pointer may be NULL, also where its length is 0. What is written (non-const) may not overlap anything else
  * that is lent to the same call. A success writes its result from the front of the output and leaves the rest of the output
- * as it was. Nothing is allocated, no state is held, and the functions may be called from any number of threads.
+ * as it was. Nothing is allocated, no state is held, and the functions may be called from any number of threads. Long records
+ * are written and read with room on the stack: a thread with 80 KiB of it is enough.
  *
  * Sets. n is the colour count; ids lie from 0 to n - 1.
  *

@@ -1,14 +1,14 @@
--- A rule of a table, proved at all of its entries by one test that is computed, one entry after the other.
+-- The tables: a rule of a small one is a test, computed entry by entry; that of the codes by nine bits is a law.
 use mathlib.Core.Path.{◌≡◌, refl, ap, ap₂, ◌∙◌, subst, sym}
-use mathlib.Core.Bool.{Bool, true, false, cond, ◌&&◌, ◌||◌}
+use mathlib.Core.Bool.{Bool, true, false, cond, ◌&&◌}
 use mathlib.Core.List.{List, [], ◌∷◌}
-use Prim.Native.Nat.{ℕ, zero, suc, ◌+◌, ◌-◌, ◌*◌, ◌/◌, ◌%◌, ◌^◌, ◌<◌}
-use native.Mathlib.Omega.{arith}
+use Prim.Native.Nat.{ℕ, zero, suc, ◌+◌, ◌-◌, ◌*◌, ◌/◌, ◌%◌, ◌^◌, ◌<◌, ◌≤◌}
 use native.Mathlib.Nat.{add-zero, zero-add, add-suc, suc-add, le_of_suc-le-suc, not-suc-le-zero}
 use native.Mathlib.Omega.{arith}
 use lib.ListN.{length, get_or}
+use lib.Pow.{pow_pos}
 use lib.Dec.{ltb, leb, eqb}
-use borrow.Author.Tests.{ltb-true, leb-true, eqb-true, ne_eqb}
+use borrow.Author.Tests.{ltb-true, leb-true, eqb-true}
 use Rattle.base.proofs.Bools.{and_true, false_true}
 use Rattle.codec.specs.Bits.{low_bits}
 use Rattle.codec.specs.Codes.{high_bit, high_in, gamma}
@@ -103,39 +103,45 @@ entries (suc n) j = entry 20 j ∷ entries n (suc j)
 abbrev pub code_entries : List ℕ
 code_entries = entries 512 0
 
--- what an entry other than 0 owes
-abbrev behind : ℕ → ℕ
-behind e = e % 64 - e / 64 % 64
+entries_at : (n j i : ℕ) → i < n → get_or (entries n j) i 0 ≡ entry 20 (j + i)
+entries_at zero j i h = absurd (omega arith)
+entries_at (suc n) j zero h = let z : j ≡ j + 0 = omega arith in ap (entry 20) z
+entries_at (suc n) j (suc i) h = let s : suc j + i ≡ j + suc i = omega arith in entries_at n (suc j) i (omega arith) ∙ ap (entry 20) s
 
-unfoldable heads : ℕ → ℕ → Bool
-heads j e = eqb e 0 || (leb (behind e) 19 && leb (e / 64 % 64) (e % 64) && leb (e / 64 % 64) 9 && eqb (e / 4096) (2 ^ behind e - 1) && alike (low_bits (e / 64 % 64) j) (gamma (behind e)))
-
-other : (a b : Bool) → (a || b) ≡ true → a ≡ false → b ≡ true
-other true b t n = false_true (sym n)
-other false b t n = t
-
-head_of : (j e : ℕ) → heads j e ≡ true → 0 < e → Head j e
-unfolding heads
-head_of j e t h =
-    let u = other (eqb e 0) _ t (ne_eqb e 0 (λ z. omega (arith, h, z))) in
-    let a = and_true _ (alike (low_bits (e / 64 % 64) j) (gamma (behind e))) u in
-    let b = and_true _ (eqb (e / 4096) (2 ^ behind e - 1)) a.0 in
-    let c = and_true _ (leb (e / 64 % 64) 9) b.0 in
-    let d = and_true (leb (behind e) 19) (leb (e / 64 % 64) (e % 64)) c.0 in
+-- what an entry other than 0 tells, since its parts don't meet
+head_of : (j n b p : ℕ) → b ≤ 19 → n ≤ 9 → 2 ^ b ≡ suc p → low_bits n j ≡ gamma b → Head j (n + b + 64 * n + 4096 * (2 ^ b - 1))
+head_of j n b p few short power code =
+    let m : 2 ^ b - 1 ≡ p = omega (arith, power) in
+    let low : (n + b + 64 * n + 4096 * (2 ^ b - 1)) / 64 % 64 ≡ n = omega (arith, m) in
     record {
-      b = behind e;
-      few = leb-true (behind e) 19 d.0;
-      short = leb-true (e / 64 % 64) 9 c.1;
-      count = omega (arith, leb-true (e / 64 % 64) (e % 64) d.1);
-      mask = eqb-true (e / 4096) (2 ^ behind e - 1) b.1;
-      code = alike_same (low_bits (e / 64 % 64) j) (gamma (behind e)) a.1;
+      b = b;
+      few = few;
+      short = omega (arith, low);
+      count = omega (arith, m);
+      mask = omega (arith, m);
+      code = ap (λ (i : ℕ). low_bits i j) low ∙ code;
     }
+
+entry_head : (k j : ℕ) → k ≤ 20 → IsEntry j (entry k j)
+unfolding entry
+entry_head zero j h some = absurd (omega (arith, some))
+entry_head (suc b) j h some = go (leb n 9 && alike (low_bits n j) (gamma b)) refl (entry_head b j (omega arith)) some
+  where
+    n : ℕ
+    n = 2 * high_bit (b + 1) + 1
+
+    go : (t : Bool) → leb n 9 && alike (low_bits n j) (gamma b) ≡ t → IsEntry j (entry b j) → IsEntry j (cond t (n + b + 64 * n + 4096 * (2 ^ b - 1)) (entry b j))
+    go true e later some =
+        let u = and_true (leb n 9) (alike (low_bits n j) (gamma b)) e in
+        head_of j n b (2 ^ b - 1) (omega arith) (leb-true n 9 u.0) (omega (arith, pow_pos b)) (alike_same (low_bits n j) (gamma b) u.1)
+    go false e later some = later some
 
 -- the entry at a number's low nine bits tells of the number
 pub code_is : (w e : ℕ) → e ≡ get_or code_entries (w % 512) 0 → IsEntry w e
-unfolding entry heads alike low_bits gamma high_bit high_in
-code_is w e is h =
-    let head = head_of (w % 512) e (rw is (at heads code_entries refl (w % 512) (omega arith))) h in
+code_is w e is some =
+    let j : ℕ = w % 512 in
+    let z : 0 + j ≡ j = omega arith in
+    let head : Head j e = subst (IsEntry j) (sym (is ∙ entries_at 512 0 j (omega arith) ∙ ap (entry 20) z)) (entry_head 20 j (omega arith)) some in
     let k : ℕ = e / 64 % 64 in
     let nine : 9 ≡ (9 - k) + k = omega (arith, head.short) in
     record { b = head.b; few = head.few; short = head.short; count = head.count; mask = head.mask; code = sym (low_below (9 - k) k w) ∙ ap (λ (i : ℕ). low_bits k (w % 2 ^ i)) (sym nine) ∙ head.code }
