@@ -4,6 +4,7 @@
 // by `as`, since there is no `From` for it from u64.
 use crate::numbers::{MOST_ITEMS, Narrow, fitting, list_of, numbers_of};
 use capi::records;
+use shell::fields::is_line_end;
 use std::alloc::{AllocError, Global};
 use std::io;
 
@@ -19,9 +20,27 @@ enum Pair {
     Unrelated,
 }
 
-impl Pair {
-    fn is_of_one_count(&self) -> bool {
-        matches!(self, Pair::Beginning | Pair::Neither | Pair::Alone)
+// How many pairs there were of one colour count, and of each kind worth telling. They are counted as they are met: kept, they
+// would take memory that grows with the square of the lines.
+#[derive(Clone, Copy, Debug, Default)]
+struct Seen {
+    of_one_count: u64,
+    beginnings: u64,
+    alone: u64,
+    other_sets: u64,
+}
+
+impl Seen {
+    fn count(&mut self, pair: Pair) {
+        match pair {
+            Pair::Beginning => self.beginnings = self.beginnings.saturating_add(1),
+            Pair::Alone => self.alone = self.alone.saturating_add(1),
+            Pair::OtherSets => self.other_sets = self.other_sets.saturating_add(1),
+            Pair::Neither | Pair::Unrelated => {}
+        }
+        if matches!(pair, Pair::Beginning | Pair::Neither | Pair::Alone) {
+            self.of_one_count = self.of_one_count.saturating_add(1);
+        }
     }
 }
 
@@ -101,7 +120,7 @@ impl File {
 // The file of each line.
 fn files_of(alloc: Global, text: &[u8]) -> Result<Vec<Option<File>>, AllocError> {
     let mut files = Vec::new(alloc);
-    for line in text.split_inclusive(|byte| *byte == b'\n') {
+    for line in text.split_inclusive(|byte| is_line_end(*byte)) {
         files.push(File::of(alloc, line)?)?;
     }
     Ok(files)
@@ -124,38 +143,32 @@ fn misread(alloc: Global, files: &[Option<File>]) -> Result<u64, AllocError> {
 }
 
 // Each file beside every one, in order.
-fn pairs_of(alloc: Global, files: &[Option<File>]) -> Result<Vec<Pair>, AllocError> {
-    let mut pairs = Vec::new(alloc);
+fn pairs_of(files: &[Option<File>]) -> Seen {
+    let mut seen = Seen::default();
     for one in files {
         for other in files {
-            pairs.push(match (one, other) {
+            seen.count(match (one, other) {
                 (Some(one), Some(other)) => one.beside(other),
                 // a line that is no file is told among those that are alone
                 _ => Pair::Alone,
-            })?;
+            });
         }
     }
-    Ok(pairs)
-}
-
-fn count_of(pairs: &[Pair], kind: Pair) -> usize {
-    pairs.iter().filter(|pair| **pair == kind).count()
+    seen
 }
 
 // Every file: that it is read back, and what it shows beside every one.
 pub(crate) fn compare_all(rt: &impl Print, alloc: Global, text: &[u8]) -> io::Result<()> {
     let files = files_of(alloc, text)?;
     let misread = misread(alloc, &files)?;
-    let pairs = pairs_of(alloc, &files)?;
-    let of_one_count = pairs.iter().filter(|pair| pair.is_of_one_count()).count();
+    let seen = pairs_of(&files);
     println!(rt; "{} record files, {misread} misread", files.len())?;
     println!(rt;
-        "{of_one_count} pairs of one colour count: {} where the one is the beginning of the other in bytes and in sets, {} in one of them alone",
-        count_of(&pairs, Pair::Beginning),
-        count_of(&pairs, Pair::Alone)
+        "{} pairs of one colour count: {} where the one is the beginning of the other in bytes and in sets, {} in one of them alone",
+        seen.of_one_count, seen.beginnings, seen.alone
     )?;
     println!(rt;
         "{} pairs of two colour counts with equal bytes and other sets",
-        count_of(&pairs, Pair::OtherSets)
+        seen.other_sets
     )
 }

@@ -8,18 +8,21 @@ mod recorded; // a recorded call, and what it must answer
 mod operations; // the call of each operation
 mod files; // which record file is the beginning of which
 
+ghost use Rattle.std.specs.Prelude.{◌≤◌, IfOk, vec_len};
+
+use shell::inputs::read_up_to;
 use std::alloc::Global;
-use std::io::Read;
 use std::rt::Files;
 use std::{fs, io};
 
 // How many bytes of a file are read.
-const MOST_BYTES: u64 = 262144;
+const MOST_BYTES: usize = 262144;
 
-fn read_file(rt: &impl Files, alloc: Global, name: &str) -> io::Result<Vec<u8>> {
-    let mut text = Vec::new(alloc);
-    fs::open(rt, name)?.take(MOST_BYTES).read_to_end(&mut text)?;
-    Ok(text)
+// The bytes of a file, so many at most.
+fn read_file(rt: &impl Files, alloc: Global, name: &str) -> io::Result<Vec<u8>>
+    ensures within { IfOk result (λ text. vec_len text ≤ 262144) }
+{
+    read_up_to(alloc, &mut fs::open(rt, name)?, MOST_BYTES)
 }
 
 fn main(rt: HostRuntime) -> io::Result<()> {

@@ -2,6 +2,7 @@
 ghost use Rattle.std.specs.Prelude.{◌≡◌, IfOk, length, vec_len};
 
 use shell::fields::front;
+use shell::lists::narrow;
 use std::alloc::{AllocError, Global};
 
 // How many items a list has at most: what a line has more is left out, and its answer then differs.
@@ -10,7 +11,7 @@ pub(crate) const MOST_ITEMS: usize = 2048;
 // Two lists, and what stands before them.
 const MOST_NUMBERS: usize = 4107;
 
-// A type that numbers of a line are cut to: a line may have any number, and a large one is cut on purpose, which no conversion of the library does.
+// A type that numbers of a line are cut to: a line may have any number, and a large one is cut on purpose.
 pub(crate) trait Narrow: Copy {
     fn of(number: u64) -> Self;
 }
@@ -23,7 +24,7 @@ impl Narrow for u8 {
 
 impl Narrow for u32 {
     fn of(number: u64) -> u32 {
-        (number & 0xffff_ffff) as u32
+        narrow(number)
     }
 }
 

@@ -2,7 +2,7 @@
 ghost use Rattle.std.specs.Prelude.{◌≡◌, IfOk, vec_len};
 
 use crate::numbers::{MOST_ITEMS, Narrow, fitting, list_of, numbers_of};
-use shell::fields::split_front;
+use shell::fields::{is_line_end, split_front};
 use std::alloc::{AllocError, Global};
 use std::io;
 
@@ -168,7 +168,7 @@ pub(crate) fn replay_all(rt: &impl Print, alloc: Global, text: &[u8]) -> io::Res
     // Counted here and not by `enumerate` or `count`: both are told behind the loop, in which `?` stands.
     let mut lines = 0u64;
     let mut differ = 0u64;
-    for line in text.split_inclusive(|byte| *byte == b'\n') {
+    for line in text.split_inclusive(|byte| is_line_end(*byte)) {
         lines = lines.saturating_add(1);
         if !agrees(alloc, line)? {
             differ = differ.saturating_add(1);

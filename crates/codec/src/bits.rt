@@ -6,7 +6,7 @@ ghost use Rattle.std.specs.Prelude.{◌≡◌, ◌++◌, ◌+◌, ◌-◌, ◌*�
 ghost use Rattle.base.specs.Parts.{over};
 ghost use Rattle.codec.specs.Bits.{bits_of, value_of, low_bits, pack_bits, AreBytes};
 ghost use Rattle.codec.specs.Inside.Windows.{Window};
-ghost use Rattle.codec.specs.Inside.Buffers.{Placed};
+ghost use Rattle.codec.specs.Inside.Buffers.{low_bytes, Placed};
 
 // Bit `at` of the slice, if it has one.
 pub(crate) fn bit_at(bytes: &[u8], at: usize) -> Option<bool>
@@ -75,6 +75,18 @@ pub(crate) fn low_ones(word: u64) -> usize
     (!word).trailing_zeros() as usize
 }
 
+// The low bytes of `x`, as many as `out` has. One by one: a copy of a few bytes, how many isn't known, would be a call of C's memcpy,
+// which takes longer, and which the archive doesn't ask for.
+fn put_bytes(out: &mut [u8], x: u64)
+    ensures { out.new ≡ low_bytes (length out.old) x }
+{
+    let mut rest = x;
+    for byte in out.iter_mut() {
+        *byte = (rest % 256) as u8;
+        rest /= 256;
+    }
+}
+
 // The `len` low bytes of `x` to place `at`. All eight are stored where there is space for them, so that most words take one
 // store: what lies behind the `len` bytes may be written too.
 fn put_low_bytes(out: &mut [u8], at: usize, x: u64, len: usize)
@@ -84,7 +96,7 @@ fn put_low_bytes(out: &mut [u8], at: usize, x: u64, len: usize)
     if at + 8 <= out.len() {
         out[at..at + 8].copy_from_slice(&x.to_le_bytes());
     } else {
-        out[at..at + len].copy_from_slice(&x.to_le_bytes()[..len]);
+        put_bytes(&mut out[at..at + len], x);
     }
 }
 

@@ -14,6 +14,7 @@ use crate::bits::BitWriter;
 use crate::body::Body;
 use crate::codes::ReadCode;
 use crate::colors::ColorSet;
+use crate::copies::copy_front;
 use crate::source::Source;
 
 // A place in the ids to code: `i` ids of the set are passed, and the next coded id is `from` or more. The set stays
@@ -190,9 +191,13 @@ fn next_bits<C: CodedIds>(set: ColorSet, c: Cursor) -> Option<NextBits>
     let first = C::next_id(set, c)?;
     let count = crate::codes::delta_len(first.id - c.from);
     let Some(second) = C::next_id(set, first.next) else {
+        // The end, so that what stands behind the last id isn't gone over once more.
         return Some(NextBits {
             count,
-            next: first.next,
+            next: Cursor {
+                i: set.ids.len(),
+                from: set.colors.n,
+            },
         });
     };
     Some(NextBits {
@@ -341,7 +346,7 @@ impl Checked<'_> {
     {
         let count = self.body.count;
         if count <= self.room.len() {
-            out[..count].copy_from_slice(&self.room[..count]);
+            copy_front(self.room, &mut out[..count]);
             return;
         }
         self.body.read_gaps(out);

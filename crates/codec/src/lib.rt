@@ -6,6 +6,7 @@ mod bits; // bits of a byte slice, and a writer of bits
 mod bitmap; // a set as one bit for each id
 mod body; // what a payload holds
 mod colors; // a colour count and ids below it
+mod copies; // the front of a list copied
 mod codes; // Elias gamma and delta codes
 mod gap_reader; // ids coded as distances, read
 mod gaps; // ids as the distances between them

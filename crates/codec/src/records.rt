@@ -9,6 +9,7 @@ ghost use Rattle.codec.specs.Inside.Gaps.{AbsentIn};
 ghost use Rattle.codec.specs.Inside.Payloads.{put_set};
 
 use crate::colors::{ColorSet, Colors};
+use crate::copies::copy_front;
 use crate::measured::Measured;
 use crate::prefix::Prefix;
 use crate::sets::Kind;
@@ -47,7 +48,8 @@ fn write_short(set: ColorSet, out: &mut [u8]) -> usize
 {
     let mut room = [0u8; 136];
     let len = crate::sets::encode_source_set(&mut room, set, None);
-    out[1..len + 1].copy_from_slice(&room[..len]);
+    let payload = &mut out[1..len + 1];
+    copy_front(&room, payload);
     out[0] = len as u8;
     len + 1
 }

@@ -1,6 +1,6 @@
 // Input in chunks, chunks to lines, in fixed buffers, since the program allocates nothing.
 use crate::output::Output;
-use shell::fields::{front, part};
+use shell::fields::{front, is_line_end, part, starts_comment};
 use shell::reasons::Fault;
 use shell::texts;
 use std::io;
@@ -10,7 +10,7 @@ use std::io::{Read, Stdin};
 pub struct Input {
     pub from: Stdin,
     // what one read gave, and how far it was taken
-    pub bytes: [u8; 65536],
+    pub bytes: [u8; 16384],
     pub got: usize,
     pub taken: usize,
     // whether these are the last
@@ -41,7 +41,7 @@ impl Input {
     // The bytes up to the next line end, behind those that the line has; whether the line is whole.
     fn take(&mut self, line: &mut Line) -> bool {
         let rest = part(&self.bytes, self.taken, self.got);
-        let end = rest.iter().position(|b| *b == b'\n');
+        let end = rest.iter().position(|b| is_line_end(*b));
         let kept = front(rest, end.unwrap_or(rest.len()));
         line.used = texts::put(kept, line.used, &mut line.bytes);
         self.taken = match end {
@@ -81,7 +81,7 @@ impl Line {
             return Err(Fault::Long);
         }
         let line = front(&self.bytes, self.used);
-        let end = line.iter().position(|b| *b == b'#');
+        let end = line.iter().position(|b| starts_comment(*b));
         Ok(front(line, end.unwrap_or(line.len())))
     }
 }

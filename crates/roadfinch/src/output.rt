@@ -9,7 +9,7 @@ use std::io::{Stdout, Write};
 
 #[derive(Drop)]
 pub struct Output {
-    pub bytes: [u8; 65536],
+    pub bytes: [u8; 16384],
     // how many bytes wait
     pub used: usize,
     pub to: Stdout,
@@ -25,7 +25,7 @@ impl Output {
 
     // Space for a piece of text, which is never more than 1,536 bytes.
     fn make_room(&mut self) -> io::Result<()> {
-        if self.used < 64000 {
+        if self.used < 14848 {
             return Ok(());
         }
         self.flush()

@@ -73,8 +73,9 @@ pub fn write_rotated_runs(
 {
     orders::check_steady(runs, n)?;
     let cycle = rotate::turned(Oriented { runs, n, reversed }, pivot);
-    let count = rotate::count(cycle) as u32; // below 2 ^ 24, which is proved
-    write(count, cycle, out)
+    let count = rotate::count(cycle);
+    // `count` is below 2 ^ 24, which is proved. So many runs and no more, as in `rotate_cycle_color_runs`.
+    write(count as u32, cycle.take(count), out)
 }
 
 // The list at the front of `bytes` to the front of `out`.

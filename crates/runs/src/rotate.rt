@@ -57,6 +57,7 @@ pub fn rotate_cycle_color_runs(
     if out.len() < count {
         return Err(Refusal::Space);
     }
-    fill(cycle, out);
+    // So many and no more: asked once more, the iterator would go over the steps behind its last run.
+    fill(cycle.take(count), out);
     Ok(count)
 }

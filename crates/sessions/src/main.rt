@@ -10,17 +10,18 @@ mod texts; // lists as text
 
 use crate::memory::Memory;
 use crate::session::{Head, Session};
+use shell::fields::is_line_end;
+use shell::inputs::read_up_to;
 use std::io;
-use std::io::{BufWriter, Read, Write};
+use std::io::{BufWriter, Write};
 
 // How many bytes of input are read.
-const MOST_BYTES: u64 = 1048576;
+const MOST_BYTES: usize = 1048576;
 
 fn main(rt: HostRuntime) -> io::Result<()> {
     let alloc = rt.alloc();
-    let mut text = Vec::new(alloc);
-    rt.stdin().take(MOST_BYTES).read_to_end(&mut text)?;
-    let mut lines: Vec<&[u8]> = text.split(|byte| *byte == b'\n').collect(alloc)?;
+    let text = read_up_to(alloc, &mut rt.stdin(), MOST_BYTES)?;
+    let mut lines: Vec<&[u8]> = text.split(|byte| is_line_end(*byte)).collect(alloc)?;
     // Behind the last line end there is a line only where there is a byte.
     if lines.last().is_some_and(|line| line.is_empty()) {
         lines.pop();

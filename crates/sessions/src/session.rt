@@ -47,9 +47,10 @@ fn list<T>(alloc: Global, line: Option<&&[u8]>, most: usize) -> Result<Vec<T>, A
 where
     T: Word + From<u8>,
 {
-    let mut items = Vec::new(alloc);
-    items.resize(most, T::from(0))?;
     let line = line.copied().unwrap_or(b"");
+    // No place is filled that the line's words can't take: a short session would spend its time on that. Words are parted by a byte at least.
+    let mut items = Vec::new(alloc);
+    items.resize(most.min(line.len() / 2 + 1), T::from(0))?;
     let count = Words::of(line).values(&mut items).unwrap_or(0);
     items.truncate(count);
     Ok(items)

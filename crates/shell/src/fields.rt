@@ -3,7 +3,7 @@ ghost use Rattle.std.specs.Prelude.{◌≡◌, ◌-◌, ◌++◌, not, take, dro
 ghost use Rattle.std.specs.Borrow.{LendsBoth, sem};
 ghost use denote.Array.{Array};
 ghost use Rattle.std.specs.List.{position};
-ghost use Rattle.shell.specs.Fields.{is_blank, field_at};
+ghost use Rattle.shell.specs.Fields.{is_blank, is_line_end, starts_comment, field_at};
 
 // Where a word stands: from `start` up to `end`.
 #[derive(Clone, Copy)]
@@ -17,6 +17,20 @@ fn is_blank(b: u8) -> bool
     ensures { result ≡ is_blank b }
 {
     b == b' ' || b == b'\t' || b == b'\r'
+}
+
+// What ends a line.
+pub fn is_line_end(b: u8) -> bool
+    ensures { result ≡ is_line_end b }
+{
+    b == b'\n'
+}
+
+// What a comment starts with, which goes on to the line's end.
+pub fn starts_comment(b: u8) -> bool
+    ensures { result ≡ starts_comment b }
+{
+    b == b'#'
 }
 
 // The elements from `start` up to `end`, as far as there are any.

@@ -1,5 +1,5 @@
 // Numbers and runs from a place of a line to its end.
-ghost use Rattle.std.specs.Prelude.{◌≡◌, List, ℕ, Result, length};
+ghost use Rattle.std.specs.Prelude.{◌≡◌, ◌%◌, List, ℕ, Result, length};
 ghost use Rattle.shell.specs.declared.reasons.Fault.{Fault};
 ghost use Rattle.shell.specs.Lists.{id_of, run_of, item_at, list_from};
 
@@ -34,6 +34,13 @@ impl Word for u64 {
     fn read(word: &[u8]) -> Result<u64, Fault> {
         pair(word).map_err(|e| e.fault(Fault::Pair))
     }
+}
+
+// A number of 32 bits, cut on purpose where it has more, which no conversion of the library does.
+pub fn narrow(value: u64) -> u32
+    ensures { result ≡ value % 4294967296 }
+{
+    (value % 4294967296) as u32
 }
 
 // What a word says, and where it ends.

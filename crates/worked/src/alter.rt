@@ -2,9 +2,10 @@
 // the low byte of a number.
 // The six buffers are told apart by name twice here and twice in views.rt: some hold bytes and some words, so a function from a name to its buffer
 // would answer with an enum, which each of the four would take apart again.
-use crate::args::{StepError, narrow, size, wide};
+use crate::args::{StepError, size, wide};
 use crate::bench::Bench;
 use crate::replies::Reply;
+use shell::lists::narrow;
 use shell::reasons::Fault;
 use shell::words::Words;
 use store::state::{Current, Last, Store, Way};

@@ -1,7 +1,7 @@
 // The words of a step as its arguments.
 use crate::buffers::{BYTES, WORDS};
 use shell::hexes;
-use shell::lists::Word;
+use shell::lists::{Word, narrow};
 use shell::reasons::Fault;
 use shell::words::Words;
 use std::alloc::{AllocError, Global};
@@ -47,7 +47,7 @@ pub(crate) fn wide(words: &mut Words<'_>) -> Result<u64, Fault> {
     number
 }
 
-// The same, cut to 32 bits.
+// The same, cut to 32 bits: a case may write any number.
 pub(crate) fn number(words: &mut Words<'_>) -> Result<u32, Fault> {
     Ok(narrow(wide(words)?))
 }
@@ -60,11 +60,6 @@ pub(crate) fn size(words: &mut Words<'_>) -> Result<usize, Fault> {
 // Whether a 1 stands next.
 pub(crate) fn flag(words: &mut Words<'_>) -> Result<bool, Fault> {
     Ok(wide(words)? == 1)
-}
-
-// A case may write any number, and a wide one is cut on purpose: no conversion of the library does.
-pub(crate) fn narrow(value: u64) -> u32 {
-    (value & 0xffff_ffff) as u32
 }
 
 // The ids or runs up to the end of the step; none where one can't be read, or there are too many. The libraries allocate nothing, so `sessions` has

@@ -14,18 +14,18 @@ mod lists; // run lists
 mod views; // what lies in a buffer
 
 use crate::bench::Bench;
+use shell::fields::is_line_end;
+use shell::inputs::read_up_to;
 use std::io;
-use std::io::Read;
 
 // How many bytes of input are read.
-const MOST_BYTES: u64 = 65536;
+const MOST_BYTES: usize = 65536;
 
 fn main(rt: HostRuntime) -> io::Result<()> {
     let alloc = rt.alloc();
-    let mut text = Vec::new(alloc);
-    rt.stdin().take(MOST_BYTES).read_to_end(&mut text)?;
+    let text = read_up_to(alloc, &mut rt.stdin(), MOST_BYTES)?;
     let mut bench = Bench::new(alloc)?;
-    for line in text.split(|byte| *byte == b'\n') {
+    for line in text.split(|byte| is_line_end(*byte)) {
         // A line without a colon is a comment, or empty.
         if let Some(colon) = line.iter().position(|byte| *byte == b':') {
             for step in line[colon + 1..].split_inclusive(|byte| *byte == b';') {

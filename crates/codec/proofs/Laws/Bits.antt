@@ -15,7 +15,7 @@ use Rattle.std.specs.Int.{w64, byte_at, bytes_low_first, to_le_bytes}
 use Rattle.std.proofs.lemmas.Slice.{take-put_mid}
 use Rattle.codec.specs.Bits.{low_bits, value_of, bits_of, pack_bytes, pack_bits, bytes_for, AreBytes}
 use Rattle.codec.specs.Codes.{high_bit, gamma, delta}
-use Rattle.codec.specs.Inside.Buffers.{Placed}
+use Rattle.codec.specs.Inside.Buffers.{low_bytes, Placed}
 use Rattle.codec.proofs.Laws.Codes.{high_top}
 use Rattle.codec.proofs.Laws.Low.{length_low, low_add, low_mod, low_join, value_low, low_value, value_lt, length_bits}
 
@@ -121,10 +121,6 @@ bytes_append (x ∷ xs) ys h k = λ i. elim i as (λ i. get_or ((x ∷ xs) ++ ys
 
 -- ---- the low bytes of a number, put into a buffer
 
-low_bytes : ℕ → ℕ → List ℕ
-low_bytes zero x = []
-low_bytes (suc n) x = x % 256 ∷ low_bytes n (x / 256)
-
 byte_is : (i x : ℕ) → byte_at i x ≡ x / 256 ^ i % 256
 byte_is zero x = rw div-one refl
 byte_is (suc i) x = refl
@@ -143,7 +139,7 @@ take_low (suc n) zero x h = absurd (omega arith)
 take_low (suc n) (suc m) x h = ap (λ (l : List ℕ). x % 256 ∷ l) (take_low n m (x / 256) (omega arith))
 
 -- by std's word
-low_of : (n x : ℕ) → n ≤ 8 → take n (to_le_bytes w64 x) ≡ low_bytes n x
+pub low_of : (n x : ℕ) → n ≤ 8 → take n (to_le_bytes w64 x) ≡ low_bytes n x
 low_of n x h = ap (take n) (low_first 8 x 0 ∙ ap (low_bytes 8) (div-one x)) ∙ take_low n 8 x h
 
 length_low_bytes : (n x : ℕ) → length (low_bytes n x) ≡ n
@@ -168,9 +164,8 @@ bytes_low_bytes zero x = λ i. omega arith
 bytes_low_bytes (suc n) x = λ i. elim i as (λ i. get_or (x % 256 ∷ low_bytes n (x / 256)) i 0 < 256) [ zero ↦ omega arith | suc j ↦ bytes_low_bytes n (x / 256) j ]
 
 -- k low bytes of x, put at a place of a buffer: the first n of them stand there
-pub placed : (out ys : List ℕ) (at n k m x : ℕ) → m ≡ k → n ≤ k → at + k ≤ length out → k ≤ 8 → ys ≡ take k (to_le_bytes w64 x) → Placed out (put_mid at m out ys) at n x
-placed out ys at n k m x e less inside few is =
-    let low : ys ≡ low_bytes k x = is ∙ low_of k x few in
+pub placed : (out ys : List ℕ) (at n k m x : ℕ) → m ≡ k → n ≤ k → at + k ≤ length out → ys ≡ low_bytes k x → Placed out (put_mid at m out ys) at n x
+placed out ys at n k m x e less inside low =
     let l : length ys ≡ k = ap length low ∙ length_low_bytes k x in
     let new = put_mid at m out ys in
     let all : take (at + k) new ≡ take at out ++ ys = take-put_mid at m out ys (at + k) (omega arith) (omega arith) in

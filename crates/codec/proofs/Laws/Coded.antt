@@ -5,6 +5,7 @@ use mathlib.Core.Bool.{Bool, true, false, not}
 use mathlib.Core.List.{List, [], ◌∷◌, ◌++◌, map, append_assoc, append-nil}
 use native.Mathlib.Numerals.{add-one}
 use native.Mathlib.Decide.{ℕ_discrete, dec_lt}
+use native.Mathlib.Nat.{le_refl}
 use native.Mathlib.Omega.{arith}
 use lib.ListN.{length, drop, get_or, replicate, length-append, length-drop, drop_of_length-le}
 use lib.Seq.{drop-cons, drop-drop, drop_at, get_or-drop}
@@ -312,6 +313,19 @@ module _ (dense : Bool) (N : ℕ) (ids : List ℕ) (c : Cursor) (first : NextId)
   two_bits second more =
       id_bits dense N ids c first.id first.next gave ∙ ap (λ (l : List Bool). delta (first.id - c.from) ++ l) (id_bits dense N ids first.next second.id second.next more)
       ∙ sym (append_assoc (delta (first.id - c.from)) (delta (second.id - first.next.from)) (bits_from dense N ids second.next))
+
+-- where all are passed, none are left
+module _ (N : ℕ) (ids : List ℕ) where
+  passed : drop (length ids) ids ≡ []
+  passed = drop_of_length-le ids (le_refl (length ids))
+
+  pub end_ahead : Ahead N ids (record { i = length ids; from = N })
+  end_ahead = record { inside = le_refl (length ids); below = le_refl N; left = subst (Within N N) (sym passed) tt }
+
+  pub end_bits : (dense : Bool) → bits_from dense N ids (record { i = length ids; from = N }) ≡ []
+  unfolding gap_bits coded_from
+  end_bits false = ap (gap_bits N) passed
+  end_bits true = ap (gap_bits N) (absent_end N N (drop (length ids) ids) (le_refl N))
 
 -- ---- the bits of a set's coded ids: those of the ids given, and those of the ids yet to give
 

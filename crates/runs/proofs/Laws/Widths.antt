@@ -1,6 +1,6 @@
 -- Every word that an operation writes has its offset below 2^24 and keeps its 40-bit coordinate.
 use Prim.Native.Nat.{ℕ, zero, suc, ◌+◌, ◌-◌, ◌%◌, ◌^◌, ◌≤◌, ◌<◌}
-use mathlib.Core.Path.{◌≡◌, refl, sym, subst}
+use mathlib.Core.Path.{◌≡◌, refl, sym, ap, ◌∙◌, subst}
 use mathlib.Core.Bool.{Bool, true, false}
 use mathlib.Core.List.{List, [], ◌∷◌, ◌++◌}
 use native.Mathlib.Omega.{arith}
@@ -17,7 +17,7 @@ use Rattle.runs.specs.Merge.{merge_behind, unless}
 use Rattle.runs.specs.Append.{shifted, appendix, append_runs}
 use Rattle.runs.specs.Rotate.{turn_left, changes, firsts, runs_at, merged, rotate_runs}
 use Rattle.runs.proofs.Laws.Lists.{get_or_behind, all_turn}
-use Rattle.runs.proofs.Laws.Words.{pack_of, coordinate_small, pack_small}
+use Rattle.runs.proofs.Laws.Words.{offset_pack, coordinate_pack, pack_of, coordinate_small, pack_small}
 use Rattle.runs.proofs.Laws.Orders.{end_le, run_begins, sharp_yes, sharp_steady, strict_le}
 use Rattle.runs.proofs.Laws.Colours.{length_colours, steady_long, steady_at}
 use Rattle.runs.proofs.Laws.Reverse.{reversed_at, length_reversed, oriented_sharp, oriented_steady}
@@ -30,6 +30,12 @@ pub record Packed (o c w : ℕ) : Type 0 where
   pub word : w ≡ pack o c
   pub small : o < 16777216
   pub narrow : c < 1099511627776
+
+pub packed_offset : (o c w : ℕ) → Packed o c w → offset w ≡ o
+packed_offset o c w p = ap offset p.word ∙ offset_pack o c p.small
+
+pub packed_coordinate : (o c w : ℕ) → Packed o c w → coordinate w ≡ c
+packed_coordinate o c w p = ap coordinate p.word ∙ coordinate_pack o c p.small
 
 packed_word : (o c w : ℕ) → Packed o c w → w < 2 ^ 64
 packed_word o c w p = subst (λ (x : ℕ). x < 2 ^ 64) (sym p.word) (pack_small o c p.small p.narrow)

@@ -1,13 +1,14 @@
 -- `gaps::next_bits` meets its contract.
 use Prim.Native.Nat.{◌-◌}
-use mathlib.Core.Path.{sym}
-use mathlib.Core.List.{◌++◌}
+use mathlib.Core.Path.{sym, ap, ◌∙◌}
+use mathlib.Core.Bool.{Bool}
+use mathlib.Core.List.{List, ◌++◌, append-nil}
 use native.Mathlib.Omega.{arith}
 use lib.ListN.{length-append}
 use Rattle.codec.specs.Bits.{low_bits}
 use Rattle.codec.specs.Codes.{delta}
 use Rattle.codec.proofs.Laws.Low.{length_low}
-use Rattle.codec.proofs.Laws.Coded.{eight_bits, id_bits, no_bits, two_bits}
+use Rattle.codec.proofs.Laws.Coded.{eight_bits, last_bits, no_bits, two_bits, end_ahead, end_bits}
 use Rattle.codec.proofs.gaps.next_bits.Goals as goal
 
 pub returns-in-Some : goal.returns-in-Some
@@ -23,9 +24,16 @@ pub returns-in_default-next_id : goal.returns-in_default-next_id
 returns-in_default-next_id g c =
     let s = c.args.set in
     let a = c.in_ok-first in
-    let e = id_bits g.C.CodedIds.dense s.colors.n s.ids.now c.args.c a.first.id a.first.next a.ensures in
-    let l = c.delta_len-count.ensures in
-    (delta (a.first.id - c.args.c.from), sym l.0, e, omega (arith, a.ensures.1, a.ensures.3), omega (arith, l.1, a.ensures.1, a.ensures.3), a.ensures.4)
+    let v = delta (a.first.id - c.args.c.from) in
+    let e = last_bits g.C.CodedIds.dense s.colors.n s.ids.now c.args.c a.first a.ensures c.in_default-next_id.ensures in
+    let l = c.delta_len-count.ensures in (
+      v,
+      sym l.0,
+      e ∙ sym (ap (λ (m : List Bool). v ++ m) (end_bits s.colors.n s.ids.now g.C.CodedIds.dense) ∙ append-nil v),
+      omega (arith, a.ensures.1, a.ensures.2),
+      omega (arith, l.1, a.ensures.1, a.ensures.2, a.ensures.3),
+      end_ahead s.colors.n s.ids.now,
+    )
 
 pub returns : goal.returns
 returns g c =

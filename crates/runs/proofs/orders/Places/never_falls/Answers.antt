@@ -14,13 +14,13 @@ loop-from-init g c = (c.requires, refl)
 pub returns-then-marks-ne0 : goal.returns-then-marks-ne0
 returns-then-marks-ne0 g c =
     let ws = g.R.Runs.list c.args.self.now.runs in
-    some_fall c.args.self.now.step ws (length ws - 1) c.loop-from.from 16777216 (omega (arith, c.count-places.ensures.0, c.loop-from-test.true)) c.marks.result c.marks.ensures c.loop-from.invariant.1 c.if-marks-ne0.true refl
+    some_fall c.args.self.now.step ws (length ws - 1) c.loop-from.from 8000 (omega (arith, c.count-places.ensures.0, c.loop-from-test.true)) c.marks.result c.marks.ensures c.loop-from.invariant.1 c.if-marks-ne0.true refl
 
 pub loop-from-preserved : goal.loop-from-preserved
 loop-from-preserved g c =
     let ws = g.R.Runs.list c.args.self.now.runs in
-    let inside : c.loop-from.from + 16777216 < length ws = omega (arith, c.count-places.ensures.0, c.loop-from-test.true) in
-    (inside, more_none c.args.self.now.step ws (length ws - 1) c.loop-from.from 16777216 (omega arith) c.marks.result c.marks.ensures c.loop-from.invariant.1 c.if-marks-ne0.false)
+    let inside : c.loop-from.from + 8000 < length ws = omega (arith, c.count-places.ensures.0, c.loop-from-test.true) in
+    (inside, more_none c.args.self.now.step ws (length ws - 1) c.loop-from.from 8000 (omega arith) c.marks.result c.marks.ensures c.loop-from.invariant.1 c.if-marks-ne0.false)
 
 pub returns : goal.returns
 returns g c =
